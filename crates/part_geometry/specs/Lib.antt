@@ -1,0 +1,4 @@
+pub mod Shape
+pub mod Making
+pub mod Cells
+pub mod Pieces

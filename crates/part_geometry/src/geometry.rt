@@ -1,0 +1,207 @@
+//! The six numbers of a pair.
+
+ghost use Rattle.std.specs.Prelude.{◌≡◌, ◌*◌, ◌↔◌, ◌≤◌, IfOk, IsTrue};
+ghost use Rattle.part_geometry.specs.Shape.{IsShape, IsWithin, send_total};
+ghost use Rattle.part_geometry.specs.Making.{both_within, geometry_of};
+
+use std::marker::Model;
+use thiserror::Error;
+
+/// The most partitions of a side.
+pub const MAX_PARTS: u32 = 1024;
+
+/// The most bytes of a partition.
+pub const MAX_PART_BYTES: u32 = 1_048_576;
+
+/// The most bytes of a message, and the greatest grain.
+pub const MAX_TOTAL: u32 = 16_777_216;
+
+/// The most rounds in flight.
+pub const MAX_DEPTH: u32 = 4;
+
+/// Why six numbers make no geometry. They are tried in this order.
+#[derive(Clone, Copy, Debug, PartialEq, Eq, Error)]
+pub enum GeometryFault {
+    /// A number of partitions isn't from 1 to 1,024.
+    #[error("a side has 1 to 1024 partitions")]
+    BadParts,
+    /// The bytes of a partition aren't from 1 to 1,048,576.
+    #[error("a partition has 1 to 1048576 bytes")]
+    BadBytes,
+    /// A side has more than 16,777,216 bytes in all.
+    #[error("a message has at most 16777216 bytes")]
+    TooLong,
+    /// The sides have different totals, in bytes.
+    #[error("the sender has {send_total} bytes and the receiver {recv_total}")]
+    SizeMismatch { send_total: u32, recv_total: u32 },
+    /// The grain isn't from 1 to 16,777,216.
+    #[error("the grain is 1 to 16777216 bytes")]
+    BadGrain,
+    /// The depth isn't from 1 to 4.
+    #[error("the depth is 1 to 4 rounds")]
+    BadDepth,
+}
+
+/// How the two sides of a pair cut one message into partitions (MPI 4.0, 4.2), how many bytes a piece has at
+/// least, and how many rounds may be in flight. Contracts see the six numbers.
+#[derive(Clone, Copy, Debug, PartialEq, Eq)]
+pub struct Geometry {
+    send_parts: u32,
+    send_bytes: u32,
+    recv_parts: u32,
+    recv_bytes: u32,
+    grain: u32,
+    depth: u32,
+}
+
+impl Model for Geometry {
+    ghost use Rattle.part_geometry.specs.Shape.{Shape, IsShape};
+
+    ghost Value = { Shape };
+
+    ghost view = { λ g. record {
+      send_parts = g.send_parts;
+      send_bytes = g.send_bytes;
+      recv_parts = g.recv_parts;
+      recv_bytes = g.recv_bytes;
+      grain = g.grain;
+      depth = g.depth;
+    } };
+
+    ghost invariant = { λ g. IsShape record {
+      send_parts = g.send_parts;
+      send_bytes = g.send_bytes;
+      recv_parts = g.recv_parts;
+      recv_bytes = g.recv_bytes;
+      grain = g.grain;
+      depth = g.depth;
+    } };
+
+    ghost inverse = { λ g. record {
+      send_parts = g.send_parts;
+      send_bytes = g.send_bytes;
+      recv_parts = g.recv_parts;
+      recv_bytes = g.recv_bytes;
+      grain = g.grain;
+      depth = g.depth;
+    } };
+}
+
+/// Whether both numbers are from `low` to `high`.
+fn both_in(low: u32, high: u32, m: u32, n: u32) -> bool
+    ensures { result ≡ both_within low high m n }
+{
+    low <= m && m <= high && low <= n && n <= high
+}
+
+impl Geometry {
+    /// The geometry of `send_parts` partitions of `send_bytes` bytes at the sender and `recv_parts` partitions of
+    /// `recv_bytes` bytes at the receiver, with pieces of at least `grain` bytes and `depth` rounds in flight.
+    /// Refused with the first fault in the order of `GeometryFault`.
+    pub fn new(
+        send_parts: u32,
+        send_bytes: u32,
+        recv_parts: u32,
+        recv_bytes: u32,
+        grain: u32,
+        depth: u32,
+    ) -> Result<Geometry, GeometryFault>
+        ensures exact { result ≡ geometry_of record {
+          send_parts = send_parts;
+          send_bytes = send_bytes;
+          recv_parts = recv_parts;
+          recv_bytes = recv_bytes;
+          grain = grain;
+          depth = depth;
+        } }
+        ensures limits { IfOk result IsShape }
+    {
+        if !both_in(1, MAX_PARTS, send_parts, recv_parts) {
+            return Err(GeometryFault::BadParts);
+        }
+        if !both_in(1, MAX_PART_BYTES, send_bytes, recv_bytes) {
+            return Err(GeometryFault::BadBytes);
+        }
+        let send_total = send_parts * send_bytes;
+        let recv_total = recv_parts * recv_bytes;
+        if !both_in(0, MAX_TOTAL, send_total, recv_total) {
+            return Err(GeometryFault::TooLong);
+        }
+        if send_total != recv_total {
+            return Err(GeometryFault::SizeMismatch {
+                send_total,
+                recv_total,
+            });
+        }
+        if !both_in(1, MAX_TOTAL, grain, grain) {
+            return Err(GeometryFault::BadGrain);
+        }
+        if !both_in(1, MAX_DEPTH, depth, depth) {
+            return Err(GeometryFault::BadDepth);
+        }
+        Ok(Geometry {
+            send_parts,
+            send_bytes,
+            recv_parts,
+            recv_bytes,
+            grain,
+            depth,
+        })
+    }
+
+    /// How many partitions the sender has, 1 to 1,024.
+    pub fn send_parts(&self) -> u32
+        ensures value { result ≡ self.now.send_parts }
+        ensures limits { IsWithin 1 1024 result }
+    {
+        self.send_parts
+    }
+
+    /// How many bytes a send partition has, 1 to 1,048,576.
+    pub fn send_bytes(&self) -> u32
+        ensures value { result ≡ self.now.send_bytes }
+        ensures limits { IsWithin 1 1048576 result }
+    {
+        self.send_bytes
+    }
+
+    /// How many partitions the receiver has, 1 to 1,024.
+    pub fn recv_parts(&self) -> u32
+        ensures value { result ≡ self.now.recv_parts }
+        ensures limits { IsWithin 1 1024 result }
+    {
+        self.recv_parts
+    }
+
+    /// How many bytes a receive partition has, 1 to 1,048,576.
+    pub fn recv_bytes(&self) -> u32
+        ensures value { result ≡ self.now.recv_bytes }
+        ensures limits { IsWithin 1 1048576 result }
+    {
+        self.recv_bytes
+    }
+
+    /// The least bytes of a piece, 1 to 16,777,216.
+    pub fn grain(&self) -> u32
+        ensures value { result ≡ self.now.grain }
+        ensures limits { IsWithin 1 16777216 result }
+    {
+        self.grain
+    }
+
+    /// How many rounds may be in flight, 1 to 4.
+    pub fn depth(&self) -> u32
+        ensures value { result ≡ self.now.depth }
+        ensures limits { IsWithin 1 4 result }
+    {
+        self.depth
+    }
+
+    /// The bytes of the message, which both sides cut. The geometry keeps all limits.
+    pub fn total(&self) -> u32
+        ensures value { result ≡ send_total self.now }
+        ensures limits { IsShape self.now }
+    {
+        self.send_parts * self.send_bytes
+    }
+}

@@ -1,0 +1,8 @@
+//! The geometry of a partitioned message: how two sides cut the same bytes, and what goes out together.
+#![tactic(auto)]
+
+mod answers;
+mod geometry;
+
+pub use answers::{Marked, Marks, RecvTest, StartFault};
+pub use geometry::{Geometry, GeometryFault};
