@@ -3,6 +3,8 @@
 
 mod answers;
 mod geometry;
+mod walk;
 
 pub use answers::{Marked, Marks, RecvTest, StartFault};
 pub use geometry::{Geometry, GeometryFault};
+pub use walk::{Cell, CellWalk};
