@@ -158,7 +158,7 @@ need_count-pos g v i inside =
     let o = piece-ordered g i inside in
     let m = send-mono g v (first_cell g i) (last_cell g i) o.0 (let h = o.1 in omega arith) in omega arith
 
-send-step : (g : Shape) (v : IsShape g) (c : ℕ) → c < cells g → send_of g (c + 1) ≤ send_of g c + 1
+pub send-step : (g : Shape) (v : IsShape g) (c : ℕ) → c < cells g → send_of g (c + 1) ≤ send_of g c + 1
 send-step g v c inside =
     elim (cases_lt (end g c) ((send_of g c + 1) * g.send_bytes)) [
       | inl below ↦ let e = send-next-same g v c inside below in omega arith

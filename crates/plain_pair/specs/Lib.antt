@@ -1,0 +1,4 @@
+pub mod Record
+pub mod Moves
+pub mod Kept
+pub mod StandsFor

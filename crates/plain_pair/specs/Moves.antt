@@ -1,0 +1,49 @@
+-- What each call answers by the record, and the record after it.
+use Rattle.std.specs.Prelude.{◌≡◌, ℕ, ◌+◌, ◌-◌, Bool, true, ◌&&◌, ◌==◌, not, nat_lt, if◌then◌else◌, Option, Some, None, Result, Ok, Err, is_ok, List, [], ◌∷◌, ◌++◌, length, slice_set}
+use Rattle.std.specs.FinMap as rounds
+use Rattle.std.specs.FinSet as parts
+use Rattle.part_geometry.specs.declared.answers.Marked.{Marked}
+use Rattle.part_geometry.specs.declared.answers.StartFault.{StartFault}
+use Rattle.part_geometry.specs.declared.answers.StartFault.TheVariants.{AlreadyActive, RoundsSpent}
+use Rattle.part_geometry.specs.Shape.{Shape}
+use Rattle.plain_pair.specs.Record.{Record, Round, sent, round_of, no_marks, no_parts}
+
+-- a side may start its next round, unless it is active in this one or this is the last
+abbrev pub start_answer : Bool → ℕ → Result ℕ StartFault
+start_answer active k =
+    if active then Err (AlreadyActive k) else (if k == 2147483647 then Err RoundsSpent else Ok (k + 1))
+
+-- the record after a move, where the answer is Ok, and else the record as it is
+abbrev pub on_ok : {A E : Type 0} → Result A E → Record → Record → Record
+on_ok answer next r = if is_ok answer then next else r
+
+-- starting the send begins an empty round
+abbrev pub start_send_answer : Record → Result ℕ StartFault
+start_send_answer r = start_answer r.sending (sent r)
+
+abbrev pub started_send : Record → Record
+started_send r = record r { rounds = r.rounds ++ no_marks ∷ []; sending = true }
+
+abbrev pub after_start_send : Record → Record
+after_start_send r = on_ok (start_send_answer r) (started_send r) r
+
+-- starting the receive begins a round of which nothing is taken
+abbrev pub start_recv_answer : Record → Result ℕ StartFault
+start_recv_answer r = start_answer r.receiving r.received
+
+abbrev pub started_recv : Record → Record
+started_recv r = record r { received = r.received + 1; receiving = true; taken = no_parts; back = no_parts }
+
+abbrev pub after_start_recv : Record → Record
+after_start_recv r = on_ok (start_recv_answer r) (started_recv r) r
+
+-- a mark puts a partition with its bytes into the last round
+abbrev pub marked : Record → ℕ → List ℕ → Record
+marked r p bytes = record r { rounds = slice_set r.rounds (sent r - 1) (rounds.insert (round_of r (sent r)) p bytes) }
+
+-- a take, and a return
+abbrev pub took : Record → ℕ → Record
+took r q = record r { taken = parts.insert r.taken q }
+
+abbrev pub gave_back : Record → ℕ → Record
+gave_back r q = record r { back = parts.insert r.back q }
