@@ -32,7 +32,7 @@ buffer_of kept k q = slice_index_or kept.buffers (buffer_place kept.shape k q) [
 
 -- whether send partition p is marked in round k: an earlier round than the sender's is whole
 abbrev pub kept_mark : Kept → ℕ → ℕ → Bool
-kept_mark kept k p = nat_lt k kept.sent || (k == kept.sent && has kept.marked p)
+kept_mark kept k p = nat_lt k kept.sent || ((k == kept.sent) && has kept.marked p)
 
 -- the byte at place x of the message of round k
 abbrev pub kept_byte : Kept → ℕ → ℕ → ℕ
@@ -40,7 +40,7 @@ kept_byte kept k x = slice_index (buffer_of kept k (x / kept.shape.recv_bytes)) 
 
 -- whether that place was taken
 abbrev pub was_taken : Kept → ℕ → ℕ → Bool
-was_taken kept k x = k == kept.received && kept.receiving && has kept.taken (x / kept.shape.recv_bytes)
+was_taken kept k x = (k == kept.received) && kept.receiving && has kept.taken (x / kept.shape.recv_bytes)
 
 -- whether a piece of the sender's round is out
 unfoldable pub is_whole : Shape → List Bool → ℕ → Bool

@@ -6,7 +6,7 @@ use Rattle.part_geometry.specs.declared.answers.Marked.{Marked}
 use Rattle.part_geometry.specs.declared.answers.StartFault.{StartFault}
 use Rattle.part_geometry.specs.declared.answers.StartFault.TheVariants.{AlreadyActive, RoundsSpent}
 use Rattle.part_geometry.specs.Shape.{Shape}
-use Rattle.plain_pair.specs.Record.{Record, Round, sent, round_of, no_marks, no_parts}
+use Rattle.plain_pair.specs.Record.{Record, Round, send_round, round_of, no_marks, no_parts}
 
 -- a side may start its next round, unless it is active in this one or this is the last
 abbrev pub start_answer : Bool → ℕ → Result ℕ StartFault
@@ -19,7 +19,7 @@ on_ok answer next r = if is_ok answer then next else r
 
 -- starting the send begins an empty round
 abbrev pub start_send_answer : Record → Result ℕ StartFault
-start_send_answer r = start_answer r.sending (sent r)
+start_send_answer r = start_answer r.sending (send_round r)
 
 abbrev pub started_send : Record → Record
 started_send r = record r { rounds = r.rounds ++ no_marks ∷ []; sending = true }
@@ -39,7 +39,7 @@ after_start_recv r = on_ok (start_recv_answer r) (started_recv r) r
 
 -- a mark puts a partition with its bytes into the last round
 abbrev pub marked : Record → ℕ → List ℕ → Record
-marked r p bytes = record r { rounds = slice_set r.rounds (sent r - 1) (rounds.insert (round_of r (sent r)) p bytes) }
+marked r p bytes = record r { rounds = slice_set r.rounds (send_round r - 1) (rounds.insert (round_of r (send_round r)) p bytes) }
 
 -- a take, and a return
 abbrev pub took : Record → ℕ → Record

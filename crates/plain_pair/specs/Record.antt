@@ -46,8 +46,8 @@ first_record = record {
 }
 
 -- the sender's round
-abbrev pub sent : Record → ℕ
-sent r = length r.rounds
+abbrev pub send_round : Record → ℕ
+send_round r = length r.rounds
 
 -- round k, for k from 1 to the sender's round
 abbrev pub round_of : Record → ℕ → Round

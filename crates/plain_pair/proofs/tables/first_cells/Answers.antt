@@ -1,0 +1,30 @@
+use Rattle.std.proofs.Common.{◌≡◌, ◌++◌, ◌∷◌, [], length, sym, ap, ◌∙◌, arith, refl}
+use Rattle.part_geometry.specs.Cells.{cells}
+use Rattle.plain_pair.specs.Tables.{number}
+use Rattle.plain_pair.proofs.Firsts.{SoFar, so_far_none, so_far_pushed, so_far_kept, firsts_whole, cells_length}
+use Rattle.plain_pair.proofs.tables.first_cells.Goals as goal
+use Rattle.plain_pair.proofs.tables.first_cells.Goals.{then-number-len+in_ok-push, else-number-len}
+
+pub loop-c-init : goal.loop-c-init
+loop-c-init c = so_far_none _ _ (ap length c.new-firsts.ensures.items)
+
+pub loop-c-preserved : goal.loop-c-preserved
+loop-c-preserved c =
+    let v = c.total-total.ensures.limits in
+    let size : c.len.result ≡ length c.loop-c.firsts.items = omega (arith, c.loop-c.firsts.ok.0) in
+    elim c.if-number-len.branch [
+      | then-number-len+in_ok-push w ↦
+        so_far_pushed _ _ _ _ _ _ _ _ v c.requires c.loop-c-test.true c.loop-c.invariant c.number.ensures (w.if-number-len.true ∙ size)
+        (ap (λ x. x.items) w.firsts-is ∙ w.in_ok-push.ensures.items)
+      | else-number-len w ↦
+        rw w.firsts-is (so_far_kept _ _ _ _ _ _ _ v c.requires c.loop-c-test.true c.loop-c.invariant c.number.ensures (λ e. w.if-number-len.false (e ∙ sym size)))
+    ]
+
+pub returns : goal.returns
+returns c =
+    let size = cells_length _ _ c.requires in
+    let here : c.loop-c.c ≡ cells c.args.geometry = (let far = c.loop-c-test.false in let near = c.loop-c.auto.c-end in omega arith) in
+    record {
+      firsts = firsts_whole _ _ c.loop-c.firsts.items _ c.total-total.ensures.limits (rw here at c.loop-c.invariant)
+          (c.in_ok-push-2.ensures.items ∙ ap (λ n. c.loop-c.firsts.items ++ n ∷ []) size);
+    }
