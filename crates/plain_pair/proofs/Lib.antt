@@ -1,3 +1,6 @@
 pub mod Walks
 pub mod Firsts
 pub mod Needs
+pub mod Counts
+pub mod Rounds
+pub mod Starts

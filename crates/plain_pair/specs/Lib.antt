@@ -3,3 +3,5 @@ pub mod Moves
 pub mod Kept
 pub mod StandsFor
 pub mod Tables
+pub mod Sound
+pub mod Pair

@@ -1,4 +1,9 @@
 //! A pair of one thread: a partitioned send and its receive (MPI 4.0, chapter 4), exact by a record of rounds.
 #![tactic(auto)]
 
+mod buffer;
+mod flags;
+mod pair;
 mod tables;
+
+pub use pair::{LAST_ROUND, PlainPair};

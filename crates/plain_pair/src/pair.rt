@@ -1,0 +1,122 @@
+//! The object.
+
+ghost use Rattle.std.specs.Prelude.{◌≡◌, ◌^◌, ◌≤◌, IfOk};
+ghost use Rattle.plain_pair.specs.Moves.{start_answer};
+
+use crate::buffer::{Buffer, zero_buffers};
+use crate::flags::{all_missing, clear, none_of, reset};
+use crate::tables::Tables;
+use part_geometry::{Geometry, StartFault};
+use std::alloc::{AllocError, Global};
+use std::marker::Model;
+
+/// The last round of a side.
+pub const LAST_ROUND: u32 = 2_147_483_647;
+
+/// A partitioned send and the receive that it is paired with, used by one thread. Contracts see what it keeps, and
+/// say what each call does by the records of rounds that it stands for.
+#[derive(Drop)]
+pub struct PlainPair {
+    tables: Tables,
+    sent: u32,
+    received: u32,
+    released: u32,
+    sending: bool,
+    receiving: bool,
+    marked: Vec<bool>,
+    taken: Vec<bool>,
+    back: Vec<bool>,
+    missing: Vec<u32>,
+    buffers: Vec<Buffer>,
+}
+
+impl Model for PlainPair {
+    ghost use Rattle.plain_pair.specs.Kept.{Kept};
+
+    ghost Value = { Kept };
+
+    ghost use Rattle.plain_pair.specs.Pair.{kept_of, IsPair};
+
+    ghost view = { kept_of };
+
+    ghost invariant = { IsPair };
+}
+
+/// The round after the one that a side is in.
+fn next_round(active: bool, round: u32) -> Result<u32, StartFault>
+    requires { round ≤ 2147483647 }
+    ensures { result ≡ start_answer active round }
+{
+    if active {
+        return Err(StartFault::AlreadyActive { round });
+    }
+    if round == LAST_ROUND {
+        return Err(StartFault::RoundsSpent);
+    }
+    Ok(round + 1)
+}
+
+impl PlainPair {
+    ghost use Rattle.plain_pair.specs.Record.{first_record};
+    ghost use Rattle.plain_pair.specs.Moves.{start_send_answer, after_start_send, start_recv_answer, after_start_recv};
+    ghost use Rattle.plain_pair.specs.StandsFor.{StandsFor, Follows};
+
+    /// A pair of a geometry with both sides inactive, before the first round (`MPI_Psend_init` and
+    /// `MPI_Precv_init`, MPI 4.0, 4.2.1). It takes all memory that the pair will ever use: a buffer for each
+    /// receive partition and each round in flight, and the tables of the geometry. The time is that of a few passes
+    /// over the cells.
+    pub fn create(alloc: Global, geometry: Geometry) -> Result<PlainPair, AllocError>
+        ensures shape { IfOk result (λ pair. pair.shape ≡ geometry) }
+        ensures first { IfOk result (λ pair. StandsFor pair first_record) }
+    {
+        let send_parts = geometry.send_parts() as usize;
+        let recv_parts = geometry.recv_parts() as usize;
+        let places = geometry.depth() as usize * recv_parts;
+        let tables = Tables::create(alloc, geometry)?;
+        let marked = none_of(alloc, send_parts)?;
+        let taken = none_of(alloc, recv_parts)?;
+        let back = none_of(alloc, recv_parts)?;
+        let missing = all_missing(alloc, tables.needs())?;
+        let buffers = zero_buffers(alloc, places, geometry.recv_bytes() as usize)?;
+        let _geometry = tables.geometry();
+        Ok(PlainPair {
+            tables,
+            sent: 0,
+            received: 0,
+            released: 0,
+            sending: false,
+            receiving: false,
+            marked,
+            taken,
+            back,
+            missing,
+            buffers,
+        })
+    }
+
+    /// Starts the next round of the sender (`MPI_Start`, MPI 4.0, 3.9), and answers its number. Refused while the
+    /// sender is active, and after the last round. Nothing is sent by it.
+    pub fn start_send(&mut self) -> Result<u32, StartFault>
+        ensures { Follows self.old self.new result start_send_answer after_start_send }
+    {
+        let round = next_round(self.sending, self.sent)?;
+        self.sent = round;
+        self.sending = true;
+        clear(&mut self.marked);
+        reset(&mut self.missing, self.tables.needs());
+        Ok(round)
+    }
+
+    /// Starts the next round of the receiver, and answers its number. Refused while the receiver is active, and
+    /// after the last round. It doesn't depend on the sender.
+    pub fn start_recv(&mut self) -> Result<u32, StartFault>
+        ensures { Follows self.old self.new result start_recv_answer after_start_recv }
+    {
+        let round = next_round(self.receiving, self.received)?;
+        self.received = round;
+        self.receiving = true;
+        clear(&mut self.taken);
+        clear(&mut self.back);
+        Ok(round)
+    }
+}
