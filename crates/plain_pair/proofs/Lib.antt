@@ -4,3 +4,5 @@ pub mod Needs
 pub mod Counts
 pub mod Rounds
 pub mod Starts
+pub mod Outs
+pub mod Closing

@@ -5,3 +5,4 @@ pub mod StandsFor
 pub mod Tables
 pub mod Sound
 pub mod Pair
+pub mod Closing

@@ -1,6 +1,6 @@
 //! One truth value for each partition, and one count for each piece.
 
-ghost use Rattle.std.specs.Prelude.{◌≡◌, Bool, false, length, replicate, IfOk};
+ghost use Rattle.std.specs.Prelude.{◌≡◌, ◌+◌, ◌-◌, ◌*◌, ◌≤◌, ◌==◌, if◌then◌else◌, count_by, Bool, false, length, replicate, IfOk};
 
 use std::alloc::{AllocError, Global};
 
@@ -31,4 +31,17 @@ pub(crate) fn reset(missing: &mut Vec<u32>, needs: &[u32])
     ensures { missing.new.items ≡ needs.now }
 {
     missing.as_mut_slice().copy_from_slice(needs);
+}
+
+/// How many pieces went out up to a round of which these are missing.
+pub(crate) fn pieces_out(round: u32, missing: &[u32]) -> u64
+    requires { length missing.now ≤ 16777216 }
+    ensures { result ≡ (if round == 0 then 0
+        else (round - 1) * length missing.now + count_by (λ m. m == 0) missing.now) }
+{
+    if round == 0 {
+        return 0;
+    }
+    let whole = missing.iter().filter(|m| **m == 0).count();
+    u64::from(round - 1) * missing.len() as u64 + whole as u64
 }

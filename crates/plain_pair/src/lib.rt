@@ -6,4 +6,4 @@ mod flags;
 mod pair;
 mod tables;
 
-pub use pair::{LAST_ROUND, PlainPair};
+pub use pair::{LAST_ROUND, PlainClosed, PlainPair};

@@ -4,7 +4,7 @@ ghost use Rattle.std.specs.Prelude.{◌≡◌, ◌^◌, ◌≤◌, IfOk};
 ghost use Rattle.plain_pair.specs.Moves.{start_answer};
 
 use crate::buffer::{Buffer, zero_buffers};
-use crate::flags::{all_missing, clear, none_of, reset};
+use crate::flags::{all_missing, clear, none_of, pieces_out, reset};
 use crate::tables::Tables;
 use part_geometry::{Geometry, StartFault};
 use std::alloc::{AllocError, Global};
@@ -42,6 +42,19 @@ impl Model for PlainPair {
     ghost invariant = { IsPair };
 }
 
+/// How far a closed pair came.
+#[derive(Clone, Copy, Debug, PartialEq, Eq)]
+pub struct PlainClosed {
+    /// The sender's last round, 0 where it had none.
+    pub send_round: u32,
+    /// The receiver's last round, 0 where it had none.
+    pub recv_round: u32,
+    /// The last round that was released, 0 where none was.
+    pub released: u32,
+    /// How many pieces went out, over all rounds.
+    pub pieces_out: u64,
+}
+
 /// The round after the one that a side is in.
 fn next_round(active: bool, round: u32) -> Result<u32, StartFault>
     requires { round ≤ 2147483647 }
@@ -59,6 +72,7 @@ fn next_round(active: bool, round: u32) -> Result<u32, StartFault>
 impl PlainPair {
     ghost use Rattle.plain_pair.specs.Record.{first_record};
     ghost use Rattle.plain_pair.specs.Moves.{start_send_answer, after_start_send, start_recv_answer, after_start_recv};
+    ghost use Rattle.plain_pair.specs.Closing.{closed_answer};
     ghost use Rattle.plain_pair.specs.StandsFor.{StandsFor, Follows};
 
     /// A pair of a geometry with both sides inactive, before the first round (`MPI_Psend_init` and
@@ -118,5 +132,17 @@ impl PlainPair {
         clear(&mut self.taken);
         clear(&mut self.back);
         Ok(round)
+    }
+
+    /// Ends the pair, and tells how far it came.
+    pub fn close(self) -> PlainClosed
+        ensures { (r : _) → StandsFor self r → result ≡ closed_answer self.shape r }
+    {
+        PlainClosed {
+            send_round: self.sent,
+            recv_round: self.received,
+            released: self.released,
+            pieces_out: pieces_out(self.sent, &self.missing),
+        }
     }
 }
