@@ -1,0 +1,6 @@
+pub mod Block
+pub mod Causes
+pub mod Shelf
+pub mod Sink
+pub mod SteadyShelf
+pub mod SteadySink
