@@ -68,11 +68,7 @@ fn file_bytes<R: Files>(
 }
 
 // All that the reader has left, of which at most `limit + 1` bytes are read.
-fn bytes_to_end<R: Read>(
-    reader: &mut R,
-    alloc: Global,
-    limit: u32,
-) -> Result<Vec<u8>, ReadAnswer>
+fn bytes_to_end<R: Read>(reader: &mut R, alloc: Global, limit: u32) -> Result<Vec<u8>, ReadAnswer>
     ensures answer { ReadsToEnd (R.remaining reader.old) limit result }
     ensures within { IfOk result (λ bytes. vec_len bytes ≤ limit) }
 {
@@ -95,11 +91,7 @@ fn bytes_to_end<R: Read>(
 const BLOCK: usize = 16384;
 
 // One read of at most `most` bytes, which go to the end of `bytes`. Their count is 0 only at the end.
-fn add_block<R: Read>(
-    reader: &mut R,
-    bytes: &mut Vec<u8>,
-    most: usize,
-) -> Result<usize, ReadAnswer>
+fn add_block<R: Read>(reader: &mut R, bytes: &mut Vec<u8>, most: usize) -> Result<usize, ReadAnswer>
     requires { 0 < most }
     ensures block { IfOk result (TakesBlock bytes.old.items bytes.new.items (R.remaining reader.old) (R.remaining reader.new) most) }
     ensures end { IfOk result (λ count. count ≡ 0 → IsAtEnd (R.remaining reader.new)) }
@@ -131,4 +123,71 @@ fn read_some<R: Read>(reader: &mut R, block: &mut [u8]) -> Result<usize, ReadAns
         }
     }
     Err(ReadAnswer::Failed)
+}
+
+#[cfg(test)]
+mod tests {
+    use super::*;
+    use std::io;
+    use std::test::Fail;
+
+    // Gives bytes one at a time after one interruption, and fails or ends after a few.
+    #[derive(Drop)]
+    struct Drip {
+        calls: u8,
+        ends: bool,
+    }
+
+    impl Read for Drip {
+        fn read(&mut self, buf: &mut [u8]) -> io::Result<usize> {
+            self.calls = self.calls.saturating_add(1);
+            if self.calls == 2 {
+                return Err(io::Error::from(ErrorKind::Interrupted));
+            }
+            if self.calls > 5 {
+                return if self.ends {
+                    Ok(0)
+                } else {
+                    Err(io::Error::other("gone"))
+                };
+            }
+            if buf.is_empty() {
+                return Ok(0);
+            }
+            buf[0] = self.calls;
+            Ok(1)
+        }
+    }
+
+    #[test]
+    fn a_reader_is_read_to_its_end(rt: HostRuntime) -> Result<(), Fail> {
+        let mut drip = Drip {
+            calls: 0,
+            ends: true,
+        };
+        let bytes = bytes_to_end(&mut drip, rt.alloc(), 4)?;
+        assert_eq!(rt; bytes.as_slice(), [1, 3, 4, 5].as_slice());
+        Ok(())
+    }
+
+    #[test]
+    fn a_reader_is_left_one_byte_past_the_limit(rt: HostRuntime) {
+        let mut drip = Drip {
+            calls: 0,
+            ends: true,
+        };
+        let answer = bytes_to_end(&mut drip, rt.alloc(), 2);
+        assert_eq!(rt; answer.err(), Some(ReadAnswer::TooLong { limit: 2 }));
+        assert_eq!(rt; drip.calls, 4);
+    }
+
+    #[test]
+    fn a_reader_that_fails_in_mid_stream_is_a_failure(rt: HostRuntime) {
+        let mut drip = Drip {
+            calls: 0,
+            ends: false,
+        };
+        let answer = bytes_to_end(&mut drip, rt.alloc(), 9);
+        assert_eq!(rt; answer.err(), Some(ReadAnswer::Failed));
+    }
 }

@@ -104,3 +104,85 @@ fn write_whole<W: Write>(writer: &mut W, piece: &[u8]) -> Result<(), Failed>
     }
     Err(Failed)
 }
+
+#[cfg(test)]
+mod tests {
+    use super::*;
+    use std::fmt::Display;
+    use std::test::Fail;
+
+    // Takes two bytes at a time and is interrupted once; after six bytes it takes no more.
+    #[derive(Drop)]
+    struct Narrow {
+        taken: usize,
+        interrupted: bool,
+    }
+
+    impl Write for Narrow {
+        fn write(&mut self, buf: &[u8]) -> io::Result<usize> {
+            if self.taken == 2 && !self.interrupted {
+                self.interrupted = true;
+                return Err(io::Error::from(ErrorKind::Interrupted));
+            }
+            if self.taken >= 6 {
+                return Ok(0);
+            }
+            let count = buf.len().min(2);
+            self.taken = self.taken.saturating_add(count);
+            Ok(count)
+        }
+
+        fn flush(&mut self) -> io::Result<()> {
+            Ok(())
+        }
+    }
+
+    #[test]
+    fn a_piece_goes_out_in_parts(rt: HostRuntime) {
+        let mut narrow = Narrow {
+            taken: 0,
+            interrupted: false,
+        };
+        assert_eq!(rt; write_whole(&mut narrow, b"12345"), Ok(()));
+        assert_eq!(rt; narrow.taken, 5);
+    }
+
+    #[test]
+    fn a_writer_that_takes_nothing_is_a_failure(rt: HostRuntime) {
+        let mut narrow = Narrow {
+            taken: 0,
+            interrupted: false,
+        };
+        assert_eq!(rt; write_whole(&mut narrow, b"1234567"), Err(Failed));
+        assert_eq!(rt; narrow.taken, 6);
+    }
+
+    // Prints nothing.
+    #[derive(Drop)]
+    struct Closed;
+
+    impl Print for Closed {
+        fn print<D: Display + Drop>(&self, _value: D) -> io::Result<()> {
+            Err(io::Error::from(ErrorKind::BrokenPipe))
+        }
+
+        fn println<D: Display + Drop>(&self, _value: D) -> io::Result<()> {
+            Err(io::Error::from(ErrorKind::BrokenPipe))
+        }
+
+        fn write_all(&self, _bytes: &[u8]) -> io::Result<()> {
+            Err(io::Error::from(ErrorKind::BrokenPipe))
+        }
+    }
+
+    #[test]
+    fn a_closed_output_is_counted(rt: HostRuntime) -> Result<(), Fail> {
+        let closed = Closed;
+        let mut sink = OutSink::new(&closed);
+        assert_eq!(rt; sink.write(b"out"), Err(Failed));
+        let mut notes = NoteSink::new(&closed);
+        assert_eq!(rt; notes.write(b"note"), Err(Failed));
+        assert_eq!(rt; (sink.faults(), notes.faults()), (1, 1));
+        Ok(())
+    }
+}

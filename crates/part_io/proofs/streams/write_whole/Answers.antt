@@ -18,6 +18,6 @@ pub loop-preserved : goal.loop-preserved
 loop-preserved g c =
     let (within, added) = c.loop.invariant in
     elim c.match-write.branch [
-      in-Ok w ↦ rw w.done-is (omega (arith, w.in-Ok.ensures.bound), longer_front _ _ _ c.args.piece.now _ _ added w.in-Ok.ensures.bytes)
-    | in-Err+else-ne w ↦ rw w.done-is (within, Appends-kept _ _ _ _ added w.in-Err.ensures.bytes)
+      | in-Ok w ↦ rw w.done-is (omega (arith, w.in-Ok.ensures.bound), longer_front _ _ _ c.args.piece.now _ _ added w.in-Ok.ensures.bytes)
+      | in-Err+else-ne w ↦ rw w.done-is (within, Appends-kept _ _ _ _ added w.in-Err.ensures.bytes)
     ]
