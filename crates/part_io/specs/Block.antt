@@ -1,7 +1,7 @@
 -- What reading to the end of a reader may answer.
 use Rattle.std.specs.Prelude.{◌≡◌, ℕ, ◌<◌, ◌≤◌, List, ◌++◌, length, Option, Result, Ok, Err, Vec, IfSome, ⊤}
 use Rattle.std.specs.declared.alloc.Global.{Global}
-use Rattle.std.specs.Io.KnownBytes.{Consumes, IsAtEnd}
+use Rattle.std.specs.Io.KnownBytes.{Consumes}
 use Rattle.part_io.specs.declared.answers.ReadAnswer.{ReadAnswer}
 use Rattle.part_io.specs.declared.answers.ReadAnswer.TheVariants.{Missing, TooLong, Failed, NoMemory}
 
@@ -12,6 +12,14 @@ ReadsToEnd left limit (Err Missing) = ⊥
 ReadsToEnd left limit (Err (TooLong told)) = (told ≡ limit) × IfSome left (λ known. limit < length known)
 ReadsToEnd left limit (Err Failed) = ⊤
 ReadsToEnd left limit (Err NoMemory) = ⊤
+
+-- bytes are all that some opened file had left, and a file that is too long had more than the limit
+abbrev pub ReadsSomeFile : {File : Type 0} → (File → Option (List ℕ)) → ℕ → Result (Vec ℕ Global) ReadAnswer → Type 0
+ReadsSomeFile {File} left limit (Ok bytes) = (file : File) × ReadsToEnd (left file) limit (Ok bytes)
+ReadsSomeFile left limit (Err Missing) = ⊥
+ReadsSomeFile {File} left limit (Err (TooLong told)) = (file : File) × ReadsToEnd (left file) limit (Err (TooLong told))
+ReadsSomeFile left limit (Err Failed) = ⊤
+ReadsSomeFile left limit (Err NoMemory) = ⊤
 
 -- the bytes grew by what the reader gave, at most this much
 pub record TakesBlock (old new : List ℕ) (left rest : Option (List ℕ)) (most count : ℕ) : Type 0 where

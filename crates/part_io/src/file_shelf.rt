@@ -2,8 +2,8 @@
 ghost use Rattle.std.specs.Prelude.{◌≡◌, ◌≤◌, ◌<◌, None, IfOk, IfErr, length, take, vec_len};
 ghost use Rattle.std.specs.Io.KnownBytes.{Consumes, IsAtEnd};
 ghost use Rattle.std.specs.Io.{ReadsAtMost};
-ghost use Rattle.part_io.specs.Shelf.{Reads};
-ghost use Rattle.part_io.specs.Block.{ReadsToEnd, TakesBlock, IsOfOutside};
+ghost use Rattle.part_io.specs.Shelf.{Reads, HasReadCause};
+ghost use Rattle.part_io.specs.Block.{ReadsToEnd, ReadsSomeFile, TakesBlock, IsOfOutside};
 
 use crate::{ReadAnswer, Shelf};
 use std::alloc::Global;
@@ -40,7 +40,15 @@ impl<R: Files> Shelf for FileShelf<R> {
     ghost faults = { λ shelf. shelf.faults };
 
     /// Reads the file at this path. One that is not there is a fault, and the answer is `Failed`.
-    fn read(&mut self, alloc: Global, name: &str, limit: u32) -> Result<Vec<u8>, ReadAnswer> {
+    fn read(&mut self, alloc: Global, name: &str, limit: u32) -> Result<Vec<u8>, ReadAnswer>
+        // What any shelf does, where it tells no files.
+        ensures answer { Reads None name.now limit result }
+        ensures within { IfOk result (λ bytes. vec_len bytes ≤ limit) }
+        ensures cause { HasReadCause (⟦<FileShelf<R> as Shelf>⟧.faults self.old) (⟦<FileShelf<R> as Shelf>⟧.faults self.new) result }
+
+        // Where the bytes come from.
+        ensures file { ReadsSomeFile R.File.remaining limit result }
+    {
         match file_bytes(&self.rt, alloc, name, limit) {
             Err(ReadAnswer::Failed) => {
                 self.faults = self.faults.saturating_add(1);
@@ -60,6 +68,7 @@ fn file_bytes<R: Files>(
 ) -> Result<Vec<u8>, ReadAnswer>
     ensures answer { Reads None path.now limit result }
     ensures within { IfOk result (λ bytes. vec_len bytes ≤ limit) }
+    ensures file { ReadsSomeFile R.File.remaining limit result }
 {
     match fs::open(rt, path) {
         Ok(mut file) => bytes_to_end(&mut file, alloc, limit),

@@ -88,7 +88,7 @@ mod tests {
 
     #[test]
     fn a_line_goes_out(rt: HostRuntime) -> Result<(), Fail> {
-        let mut sink = OutSink::new(&rt);
+        let mut sink = OutSink::new(rt.stdout());
         sink.write(b"out\n")?;
         assert_eq!(rt; sink.faults(), 0);
         Ok(())

@@ -1,41 +1,52 @@
 // Sinks over the standard output and the standard error.
 ghost use Rattle.std.specs.Prelude.{◌≡◌, ◌≤◌, ℕ, None, OnOk, OnErr, length, take};
 ghost use Rattle.std.specs.Io.KnownBytes.{Appends};
+ghost use Rattle.part_io.specs.Causes.{HasCause};
+ghost use Rattle.part_io.specs.Sink.{Writes};
 
 use crate::{Failed, Sink};
-use std::io;
 use std::io::{ErrorKind, Write};
 
-/// The standard output, or what else the runtime prints to. It tells nothing of what was written.
+/// The standard output. It tells nothing of what was written.
 #[derive(Drop)]
-pub struct OutSink<R> {
-    rt: R,
+pub struct OutSink<W> {
+    writer: W,
     faults: u64,
 }
 
-impl<R: Print> OutSink<R> {
-    /// A sink over what this runtime, or a reference to one, prints to.
-    pub fn new(rt: R) -> OutSink<R>
-        ensures { ⟦<OutSink<R> as Sink>⟧.faults result ≡ 0 }
+impl<W: Write> OutSink<W> {
+    /// A sink over this writer, as a runtime's `stdout()` or `io::writer` of a runtime.
+    pub fn new(writer: W) -> OutSink<W>
+        ensures { ⟦<OutSink<W> as Sink>⟧.faults result ≡ 0 }
     {
-        OutSink { rt, faults: 0 }
+        OutSink { writer, faults: 0 }
     }
 
-    /// How many writes have failed. The count stops at the last of a `u64`.
+    /// How many pieces did not go out whole. The count stops at the last of a `u64`.
     pub fn faults(&self) -> u64
-        ensures { result ≡ ⟦<OutSink<R> as Sink>⟧.faults self.now }
+        ensures { result ≡ ⟦<OutSink<W> as Sink>⟧.faults self.now }
     {
         self.faults
     }
 }
 
-impl<R: Print> Sink for OutSink<R> {
+impl<W: Write> Sink for OutSink<W> {
+    ghost use Rattle.part_io.specs.Streams.{PassesOn, out_contents};
+
     ghost written = { λ _. None };
 
     ghost faults = { λ sink. sink.faults };
 
-    fn write(&mut self, piece: &[u8]) -> Result<(), Failed> {
-        let written = write_whole(&mut io::writer(&self.rt), piece);
+    /// Passes the piece on to the writer, until it is out or the writer fails.
+    fn write(&mut self, piece: &[u8]) -> Result<(), Failed>
+        // What any sink does, where it tells nothing.
+        ensures adds { Writes None None piece.now result }
+        ensures cause { HasCause (⟦<OutSink<W> as Sink>⟧.faults self.old) (⟦<OutSink<W> as Sink>⟧.faults self.new) result }
+
+        // What its writer gets.
+        ensures passes { PassesOn (out_contents W.contents self.old) (out_contents W.contents self.new) piece.now result }
+    {
+        let written = write_whole(&mut self.writer, piece);
         if written.is_err() {
             self.faults = self.faults.saturating_add(1);
         }
@@ -45,34 +56,44 @@ impl<R: Print> Sink for OutSink<R> {
 
 /// The standard error, for notes beside the output. It tells nothing of what was written.
 #[derive(Drop)]
-pub struct NoteSink<R> {
-    stderr: R,
+pub struct NoteSink<W> {
+    writer: W,
     faults: u64,
 }
 
-impl<R: Print> NoteSink<R> {
-    /// A sink over a handle of the standard error, as a runtime's `stderr()` gives.
-    pub fn new(stderr: R) -> NoteSink<R>
-        ensures { ⟦<NoteSink<R> as Sink>⟧.faults result ≡ 0 }
+impl<W: Write> NoteSink<W> {
+    /// A sink over this writer, as a runtime's `stderr()`.
+    pub fn new(writer: W) -> NoteSink<W>
+        ensures { ⟦<NoteSink<W> as Sink>⟧.faults result ≡ 0 }
     {
-        NoteSink { stderr, faults: 0 }
+        NoteSink { writer, faults: 0 }
     }
 
-    /// How many writes have failed. The count stops at the last of a `u64`.
+    /// How many pieces did not go out whole. The count stops at the last of a `u64`.
     pub fn faults(&self) -> u64
-        ensures { result ≡ ⟦<NoteSink<R> as Sink>⟧.faults self.now }
+        ensures { result ≡ ⟦<NoteSink<W> as Sink>⟧.faults self.now }
     {
         self.faults
     }
 }
 
-impl<R: Print> Sink for NoteSink<R> {
+impl<W: Write> Sink for NoteSink<W> {
+    ghost use Rattle.part_io.specs.Streams.{PassesOn, note_contents};
+
     ghost written = { λ _. None };
 
     ghost faults = { λ sink. sink.faults };
 
-    fn write(&mut self, piece: &[u8]) -> Result<(), Failed> {
-        let written = write_whole(&mut io::writer(&self.stderr), piece);
+    /// Passes the piece on to the writer, until it is out or the writer fails.
+    fn write(&mut self, piece: &[u8]) -> Result<(), Failed>
+        // What any sink does, where it tells nothing.
+        ensures adds { Writes None None piece.now result }
+        ensures cause { HasCause (⟦<NoteSink<W> as Sink>⟧.faults self.old) (⟦<NoteSink<W> as Sink>⟧.faults self.new) result }
+
+        // What its writer gets.
+        ensures passes { PassesOn (note_contents W.contents self.old) (note_contents W.contents self.new) piece.now result }
+    {
+        let written = write_whole(&mut self.writer, piece);
         if written.is_err() {
             self.faults = self.faults.saturating_add(1);
         }
@@ -108,8 +129,7 @@ fn write_whole<W: Write>(writer: &mut W, piece: &[u8]) -> Result<(), Failed>
 #[cfg(test)]
 mod tests {
     use super::*;
-    use std::fmt::Display;
-    use std::test::Fail;
+    use std::io;
 
     // Takes two bytes at a time and is interrupted once; after six bytes it takes no more.
     #[derive(Drop)]
@@ -157,32 +177,17 @@ mod tests {
         assert_eq!(rt; narrow.taken, 6);
     }
 
-    // Prints nothing.
-    #[derive(Drop)]
-    struct Closed;
-
-    impl Print for Closed {
-        fn print<D: Display + Drop>(&self, _value: D) -> io::Result<()> {
-            Err(io::Error::from(ErrorKind::BrokenPipe))
-        }
-
-        fn println<D: Display + Drop>(&self, _value: D) -> io::Result<()> {
-            Err(io::Error::from(ErrorKind::BrokenPipe))
-        }
-
-        fn write_all(&self, _bytes: &[u8]) -> io::Result<()> {
-            Err(io::Error::from(ErrorKind::BrokenPipe))
-        }
-    }
-
     #[test]
-    fn a_closed_output_is_counted(rt: HostRuntime) -> Result<(), Fail> {
-        let closed = Closed;
-        let mut sink = OutSink::new(&closed);
+    fn a_piece_that_does_not_go_out_is_counted(rt: HostRuntime) {
+        let narrow = Narrow {
+            taken: 6,
+            interrupted: false,
+        };
+        let mut sink = OutSink::new(narrow);
         assert_eq!(rt; sink.write(b"out"), Err(Failed));
-        let mut notes = NoteSink::new(&closed);
+        assert_eq!(rt; sink.faults(), 1);
+        let mut notes = NoteSink::new(sink.writer);
         assert_eq!(rt; notes.write(b"note"), Err(Failed));
-        assert_eq!(rt; (sink.faults(), notes.faults()), (1, 1));
-        Ok(())
+        assert_eq!(rt; notes.faults(), 1);
     }
 }
