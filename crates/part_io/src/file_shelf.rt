@@ -44,7 +44,8 @@ impl<R: Files> Shelf for FileShelf<R> {
         // What any shelf does, where it tells no files.
         ensures answer { Reads None name.now limit result }
         ensures within { IfOk result (λ bytes. vec_len bytes ≤ limit) }
-        ensures cause { HasReadCause (⟦<FileShelf<R> as Shelf>⟧.faults self.old) (⟦<FileShelf<R> as Shelf>⟧.faults self.new) result }
+        ensures cause { HasReadCause (⟦<FileShelf<R> as Shelf>⟧.faults self.old)
+            (⟦<FileShelf<R> as Shelf>⟧.faults self.new) result }
 
         // Where the bytes come from.
         ensures file { ReadsSomeFile R.File.remaining limit result }
@@ -102,7 +103,8 @@ const BLOCK: usize = 16384;
 // One read of at most `most` bytes, which go to the end of `bytes`. Their count is 0 only at the end.
 fn add_block<R: Read>(reader: &mut R, bytes: &mut Vec<u8>, most: usize) -> Result<usize, ReadAnswer>
     requires { 0 < most }
-    ensures block { IfOk result (TakesBlock bytes.old.items bytes.new.items (R.remaining reader.old) (R.remaining reader.new) most) }
+    ensures block { IfOk result (TakesBlock bytes.old.items bytes.new.items
+        (R.remaining reader.old) (R.remaining reader.new) most) }
     ensures end { IfOk result (λ count. count ≡ 0 → IsAtEnd (R.remaining reader.new)) }
     ensures error { IfErr result IsOfOutside }
 {
@@ -117,7 +119,8 @@ fn add_block<R: Read>(reader: &mut R, bytes: &mut Vec<u8>, most: usize) -> Resul
 fn read_some<R: Read>(reader: &mut R, block: &mut [u8]) -> Result<usize, ReadAnswer>
     requires { 0 < length block.old }
     ensures bound { ReadsAtMost result block.new }
-    ensures given { IfOk result (λ count. Consumes (R.remaining reader.old) (R.remaining reader.new) (take count block.new)) }
+    ensures given { IfOk result (λ count.
+        Consumes (R.remaining reader.old) (R.remaining reader.new) (take count block.new)) }
     ensures end { IfOk result (λ count. count ≡ 0 → IsAtEnd (R.remaining reader.new)) }
     ensures error { IfErr result (λ e. e ≡ ReadAnswer.Failed) }
 {

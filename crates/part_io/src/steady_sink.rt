@@ -65,14 +65,17 @@ impl Sink for SteadySink {
     /// Adds the piece as far as it fits. One that does not fit is a fault.
     fn write(&mut self, piece: &[u8]) -> Result<(), Failed>
         // What any sink does.
-        ensures adds { Writes (Some (sink_bytes self.old)) (Some (sink_bytes self.new)) piece.now result }
+        ensures adds { Writes (Some (sink_bytes self.old)) (Some (sink_bytes self.new))
+            piece.now result }
         ensures cause { HasCause (sink_faults self.old) (sink_faults self.new) result }
 
         // What this one does.
         ensures fits { IsOk result ↔ (length piece.now ≤ room_left self.old) }
-        ensures front { sink_bytes self.new ≡ sink_bytes self.old ++ take (room_left self.old) piece.now }
+        ensures front { sink_bytes self.new ≡
+            sink_bytes self.old ++ take (room_left self.old) piece.now }
         ensures room { room_left self.new ≡ room_left self.old - length piece.now }
-        ensures fault { OnErr result (sink_faults self.new ≡ min (sink_faults self.old + 1) (2 ^ 64 - 1)) }
+        ensures fault { OnErr result
+            (sink_faults self.new ≡ min (sink_faults self.old + 1) (2 ^ 64 - 1)) }
     {
         let fitting = piece.len().min(self.left as usize);
         self.bytes.extend_from_slice(&piece[..fitting]).unwrap();

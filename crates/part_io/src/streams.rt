@@ -41,10 +41,12 @@ impl<W: Write> Sink for OutSink<W> {
     fn write(&mut self, piece: &[u8]) -> Result<(), Failed>
         // What any sink does, where it tells nothing.
         ensures adds { Writes None None piece.now result }
-        ensures cause { HasCause (⟦<OutSink<W> as Sink>⟧.faults self.old) (⟦<OutSink<W> as Sink>⟧.faults self.new) result }
+        ensures cause { HasCause (⟦<OutSink<W> as Sink>⟧.faults self.old)
+            (⟦<OutSink<W> as Sink>⟧.faults self.new) result }
 
         // What its writer gets.
-        ensures passes { PassesOn (out_contents W.contents self.old) (out_contents W.contents self.new) piece.now result }
+        ensures passes { PassesOn (out_contents W.contents self.old) (out_contents W.contents self.new)
+            piece.now result }
     {
         let written = write_whole(&mut self.writer, piece);
         if written.is_err() {
@@ -88,10 +90,12 @@ impl<W: Write> Sink for NoteSink<W> {
     fn write(&mut self, piece: &[u8]) -> Result<(), Failed>
         // What any sink does, where it tells nothing.
         ensures adds { Writes None None piece.now result }
-        ensures cause { HasCause (⟦<NoteSink<W> as Sink>⟧.faults self.old) (⟦<NoteSink<W> as Sink>⟧.faults self.new) result }
+        ensures cause { HasCause (⟦<NoteSink<W> as Sink>⟧.faults self.old)
+            (⟦<NoteSink<W> as Sink>⟧.faults self.new) result }
 
         // What its writer gets.
-        ensures passes { PassesOn (note_contents W.contents self.old) (note_contents W.contents self.new) piece.now result }
+        ensures passes { PassesOn (note_contents W.contents self.old) (note_contents W.contents self.new)
+            piece.now result }
     {
         let written = write_whole(&mut self.writer, piece);
         if written.is_err() {
