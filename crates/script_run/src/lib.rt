@@ -1,0 +1,10 @@
+//! Scripts: texts of commands for one pair of partitioned requests, read into typed lines.
+#![tactic(auto)]
+
+mod fault;
+mod line;
+mod reading;
+mod words;
+
+pub use fault::ScriptFault;
+pub use line::{Bytes, Init, Line, Name};
