@@ -50,13 +50,16 @@ start_of (name ∷ []) = do
 start_of _ = None
 
 -- the words behind `ready`
-abbrev pub ready_of : List (List ℕ) → Option Line
-ready_of (name ∷ round ∷ partition ∷ bytes ∷ []) = do
+abbrev pub mark_of : List ℕ → List ℕ → List ℕ → List ℕ → Option Line
+mark_of name round partition bytes = do
   n ← name_of name
   r ← number_of round
   p ← number_of partition
   b ← bytes_of bytes
   Some (Ready n r p b)
+
+abbrev pub ready_of : List (List ℕ) → Option Line
+ready_of (name ∷ round ∷ partition ∷ bytes ∷ []) = mark_of name round partition bytes
 ready_of _ = None
 
 -- the words behind `arrived` and `take`

@@ -2,7 +2,7 @@
 
 ghost use Rattle.std.specs.Prelude.{◌≡◌, codes, bytes_eq, IfOk, IfSome, option_map};
 ghost use Rattle.script_run.specs.Words.{words_of};
-ghost use Rattle.script_run.specs.Lines.{texts, world_of, init_of, send_of, recv_of, start_of, ready_of, place_of, arrived_of, take_of, end_of, command_of, line_of};
+ghost use Rattle.script_run.specs.Lines.{texts, world_of, init_of, send_of, recv_of, start_of, mark_of, ready_of, place_of, arrived_of, take_of, end_of, command_of, line_of};
 
 use crate::line::{Bytes, Init, Line, Name};
 use crate::words::{number, parts};
@@ -55,13 +55,16 @@ fn start(words: &[&[u8]]) -> Option<Line>
     })
 }
 
-/// The words behind `ready`.
-fn ready(alloc: Global, words: &[&[u8]]) -> Result<Option<Line>, AllocError>
-    ensures { IfOk result (λ line. line ≡ ready_of (texts words.now)) }
+/// The four words behind `ready`.
+fn mark(
+    alloc: Global,
+    name: &[u8],
+    round: &[u8],
+    partition: &[u8],
+    bytes: &[u8],
+) -> Result<Option<Line>, AllocError>
+    ensures { IfOk result (λ line. line ≡ mark_of name.now round.now partition.now bytes.now) }
 {
-    let [name, round, partition, bytes] = words else {
-        return Ok(None);
-    };
     let Some(name) = Name::new(name) else {
         return Ok(None);
     };
@@ -80,6 +83,16 @@ fn ready(alloc: Global, words: &[&[u8]]) -> Result<Option<Line>, AllocError>
         partition,
         bytes,
     }))
+}
+
+/// The words behind `ready`.
+fn ready(alloc: Global, words: &[&[u8]]) -> Result<Option<Line>, AllocError>
+    ensures { IfOk result (λ line. line ≡ ready_of (texts words.now)) }
+{
+    match words {
+        [name, round, partition, bytes] => mark(alloc, name, round, partition, bytes),
+        _ => Ok(None),
+    }
 }
 
 /// The words behind `arrived` and `take`.
