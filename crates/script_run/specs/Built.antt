@@ -1,9 +1,8 @@
 -- The form of a script.
-use Rattle.std.specs.Prelude.{ℕ, ◌-◌, Bool, true, false, ◌&&◌, ◌||◌, ◌==◌, not, nat_lt, nat_le, bytes_eq, is_ok, List, [], ◌∷◌, length, take, slice_get, Option, Some, None}
-use Rattle.std.specs.List.{list_all}
+use Rattle.std.specs.Prelude.{ℕ, Bool, true, false, ◌&&◌, ◌||◌, ◌==◌, not, nat_lt, nat_le, bytes_eq, is_ok, if◌then◌else◌, List, [], ◌∷◌, length, Option}
 use Rattle.part_geometry.specs.Making.{geometry_of}
 use Rattle.script_run.specs.Words.{◌>>=◌, when, is_within}
-use Rattle.script_run.specs.Lines.{lines_of, each_line_of}
+use Rattle.script_run.specs.Lines.{all_lines_of}
 use Rattle.script_run.specs.declared.line.Init.{Init}
 use Rattle.script_run.specs.declared.line.Line.{Line}
 use Rattle.script_run.specs.declared.line.Line.TheVariants.{World, Send, Recv, Start, Ready, Arrived, Take, End}
@@ -48,11 +47,11 @@ abbrev pub is_end : Line → Bool
 is_end End = true
 is_end _ = false
 
--- steps, and then one `end`
+-- steps, and then `end` as the last line
 abbrev pub is_body : List ℕ → List ℕ → List Line → Bool
 is_body send recv [] = false
 is_body send recv (line ∷ rest) =
-    (is_end line && length rest == 0) || (is_step send recv line && is_body send recv rest)
+    if is_end line then length rest == 0 else (is_step send recv line && is_body send recv rest)
 
 -- the form: `world`, `send` and `recv`, which fit together, and the body
 abbrev pub is_built : List Line → Bool
@@ -64,6 +63,5 @@ is_built _ = false
 -- the lines of a text that has the form
 abbrev pub script_of : List ℕ → Option (List Line)
 script_of text = do
-  lines ← lines_of text
-  script ← each_line_of lines
+  script ← all_lines_of text
   when (is_built script) script

@@ -117,3 +117,9 @@ lines_of text =
     if length text == 0 then Some []
     else if slice_index text (length text - 1) == 10 then Some (parts_of 10 (take (length text - 1) text))
     else None
+
+-- what the lines of a text say
+abbrev pub all_lines_of : List ℕ → Option (List Line)
+all_lines_of text = do
+  lines ← lines_of text
+  each_line_of lines

@@ -4,7 +4,9 @@
 mod fault;
 mod line;
 mod reading;
+mod script;
 mod words;
 
 pub use fault::ScriptFault;
 pub use line::{Bytes, Init, Line, Name};
+pub use script::{Script, parse_script};
