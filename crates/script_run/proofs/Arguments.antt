@@ -1,5 +1,5 @@
 -- How many words stand behind a command.
-use Rattle.std.proofs.Common.{◌≡◌, ◌≢◌, ℕ, ◌≤◌, ◌<◌, List, [], ◌∷◌, length, get_or, Option, None, Bor, refl, arith}
+use Rattle.std.proofs.Common.{◌≡◌, ◌≢◌, ℕ, ◌≤◌, ◌<◌, List, [], ◌∷◌, length, get_or, None, Bor, refl, arith}
 use Rattle.script_run.specs.Lines.{texts, ready_of}
 
 -- behind `ready` are four
@@ -14,7 +14,7 @@ ready_none (a ∷ b ∷ c ∷ d ∷ e ∷ rest) other = refl
 -- seven words are these
 pub seven : (words : List (Bor (List ℕ))) (d : Bor (List ℕ)) → 7 ≤ length words → length words < 8
     → texts words ≡ (get_or words 0 d).now ∷ (get_or words 1 d).now ∷ (get_or words 2 d).now ∷ (get_or words 3 d).now ∷ (get_or words 4 d).now
-      ∷ (get_or words 5 d).now ∷ (get_or words 6 d).now ∷ []
+    ∷ (get_or words 5 d).now ∷ (get_or words 6 d).now ∷ []
 seven [] d least most = absurd (omega arith)
 seven (a ∷ []) d least most = absurd (omega arith)
 seven (a ∷ b ∷ []) d least most = absurd (omega arith)

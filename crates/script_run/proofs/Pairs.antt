@@ -17,6 +17,6 @@ goes_on front [] byte whole long is so_far = absurd (omega arith)
 goes_on front (digit ∷ []) byte whole long is so_far = absurd (omega arith)
 goes_on front (high ∷ low ∷ rest) byte whole long is so_far =
     let after : take (length (high ∷ low ∷ rest) - 2) (drop 2 (high ∷ low ∷ rest)) ≡ rest =
-        let e : length (high ∷ low ∷ rest) - 2 ≡ length rest = omega arith in rw e (take-length rest) in
+    let e : length (high ∷ low ∷ rest) - 2 ≡ length rest = omega arith in rw e (take-length rest) in
     let one : with_front front (pairs_of (high ∷ low ∷ rest)) ≡ with_front (front ++ byte ∷ []) (pairs_of rest) = rw (← is) (regroup front byte (pairs_of rest)) in
     rw after (sym one ∙ so_far)

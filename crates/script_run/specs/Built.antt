@@ -24,13 +24,13 @@ is_pair send recv =
 -- the partitions of the two sides make a geometry
 abbrev pub is_divided : ℕ → ℕ → Init → Init → Bool
 is_divided grain depth send recv = is_ok (geometry_of record {
-      send_parts = send.parts;
-      send_bytes = send.bytes;
-      recv_parts = recv.parts;
-      recv_bytes = recv.bytes;
-      grain = grain;
-      depth = depth;
-    })
+  send_parts = send.parts;
+  send_bytes = send.bytes;
+  recv_parts = recv.parts;
+  recv_bytes = recv.bytes;
+  grain = grain;
+  depth = depth;
+})
 
 -- a step of a run, with the names of the sender and the receiver
 abbrev pub is_step : List ℕ → List ℕ → Line → Bool

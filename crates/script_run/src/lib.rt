@@ -10,3 +10,6 @@ mod words;
 pub use fault::ScriptFault;
 pub use line::{Bytes, Init, Line, Name};
 pub use script::{Script, parse_script};
+
+#[cfg(test)]
+mod tests;

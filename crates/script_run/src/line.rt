@@ -112,13 +112,19 @@ pub struct Init {
 #[derive(Debug, Drop)]
 pub enum Line {
     /// How many ranks there are, the least bytes of a piece, and how many rounds may be in flight.
-    World { ranks: u32, grain: u32, depth: u32 },
+    World {
+        ranks: u32,
+        grain: u32,
+        depth: u32,
+    },
     /// The sender's side.
     Send(Init),
     /// The receiver's side.
     Recv(Init),
     /// A request begins its next round.
-    Start { name: Name },
+    Start {
+        name: Name,
+    },
     /// The sender writes the bytes of a partition and marks it.
     Ready {
         name: Name,
@@ -127,9 +133,15 @@ pub enum Line {
         bytes: Bytes,
     },
     /// Whether a partition of the receiver has arrived.
-    Arrived { name: Name, q: u32 },
+    Arrived {
+        name: Name,
+        q: u32,
+    },
     /// A partition of the receiver is taken.
-    Take { name: Name, q: u32 },
+    Take {
+        name: Name,
+        q: u32,
+    },
     /// The last line.
     End,
 }

@@ -106,11 +106,7 @@ fn place(words: &[&[u8]]) -> Option<(Name, u32)>
 }
 
 /// A command and the words behind it.
-fn command(
-    alloc: Global,
-    command: &[u8],
-    words: &[&[u8]],
-) -> Result<Option<Line>, AllocError>
+fn command(alloc: Global, command: &[u8], words: &[&[u8]]) -> Result<Option<Line>, AllocError>
     ensures { IfOk result (λ line. line ≡ command_of command.now (texts words.now)) }
 {
     if command == b"world".as_slice() {

@@ -85,10 +85,7 @@ fn is_pair(send: &Init, recv: &Init) -> bool
 fn is_divided(grain: u32, depth: u32, send: &Init, recv: &Init) -> bool
     ensures { result ≡ is_divided grain depth send.now recv.now }
 {
-    Geometry::new(
-        send.parts, send.bytes, recv.parts, recv.bytes, grain, depth,
-    )
-    .is_ok()
+    Geometry::new(send.parts, send.bytes, recv.parts, recv.bytes, grain, depth).is_ok()
 }
 
 /// Whether a line is a step of a run, with the names of the sender and the receiver.
