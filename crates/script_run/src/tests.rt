@@ -1,0 +1,151 @@
+//! Texts that are scripts, and texts that aren't.
+
+use super::*;
+use std::alloc::{AllocError, Global};
+use std::test::*;
+
+const HEAD: &str = "world 2 4 2\nsend a 0 1 7 3 2 4\nrecv b 0 1 7 3 4 2\n";
+
+/// What the text of two parts gives: nothing where it is no script, and else how many lines.
+fn count(alloc: Global, head: &str, body: &str) -> Result<Option<usize>, AllocError> {
+    let text = format!(in alloc; "{head}{body}")?;
+    if text.len() > 1_048_576 {
+        return Ok(None);
+    }
+    match parse_script(alloc, text.as_bytes()) {
+        Ok(script) => Ok(Some(script.lines().len())),
+        Err(ScriptFault::NotBuilt) => Ok(None),
+        Err(ScriptFault::NoMemory) => Err(AllocError),
+    }
+}
+
+/// Whether a side is this one.
+fn is_side(init: &Init, name: &[u8], place: [u32; 4], parts: u32, bytes: u32) -> bool {
+    init.name.as_slice() == name
+        && [init.from, init.to, init.tag, init.comm] == place
+        && init.parts == parts
+        && init.bytes == bytes
+}
+
+/// Whether the first three lines are those of `HEAD`.
+fn is_head(lines: &[Line]) -> bool {
+    match lines {
+        [
+            Line::World {
+                ranks: 2,
+                grain: 4,
+                depth: 2,
+            },
+            Line::Send(send),
+            Line::Recv(recv),
+            ..
+        ] => is_side(send, b"a", [0, 1, 7, 3], 2, 4) && is_side(recv, b"b", [0, 1, 7, 3], 4, 2),
+        _ => false,
+    }
+}
+
+/// Whether a line is this `ready`.
+fn is_ready(line: &Line, of: &[u8], at: [u32; 2], written: &[u8]) -> bool {
+    match line {
+        Line::Ready {
+            name,
+            round,
+            partition,
+            bytes,
+        } => name.as_slice() == of && [*round, *partition] == at && bytes.as_slice() == written,
+        _ => false,
+    }
+}
+
+/// Whether a line is this `start`.
+fn is_start(line: &Line, of: &[u8]) -> bool {
+    matches!(line, Line::Start { name } if name.as_slice() == of)
+}
+
+#[test]
+fn each_line_is_read(rt: HostRuntime) -> Result<(), Fail> {
+    let text =
+        b"world 2 4 2\nsend a 0 1 7 3 2 4\nrecv b 0 1 7 3 4 2\nstart a\nstart b\nready a 1 1 0aFf10B2\nready a 1 0 -\narrived b 3\ntake b 2\nend\n";
+    let script = parse_script(rt.alloc(), text)?;
+    let lines = script.lines();
+    assert_eq!(rt; lines.len(), 10);
+    assert!(rt; is_head(lines));
+    assert!(rt; is_start(&lines[3], b"a"));
+    assert!(rt; is_start(&lines[4], b"b"));
+    assert!(rt; is_ready(&lines[5], b"a", [1, 1], &[10, 255, 16, 178]));
+    assert!(rt; is_ready(&lines[6], b"a", [1, 0], &[]));
+    assert!(rt;
+        matches!(&lines[7], Line::Arrived { name, q: 3 } if name.as_slice() == b"b".as_slice())
+    );
+    assert!(rt;
+        matches!(&lines[8], Line::Take { name, q: 2 } if name.as_slice() == b"b".as_slice())
+    );
+    assert!(rt; matches!(lines[9], Line::End));
+    Ok(())
+}
+
+#[test]
+fn other_texts_are_refused(rt: HostRuntime) -> Result<(), Fail> {
+    let bodies = [
+        "",
+        "end",
+        "end\r\n",
+        "start\ta\nend\n",
+        "start  a\nend\n",
+        " start a\nend\n",
+        "start a \nend\n",
+        "\nend\n",
+        "arrived b 00000000000000000001\nend\n",
+        "arrived b 4294967296\nend\n",
+        "arrived b\nend\n",
+        "start c\nend\n",
+        "ready a 1 0 abc\nend\n",
+        "ready a 1 0 ag\nend\n",
+        "ready a 1 0 \nend\n",
+        "ready b 1 0 ab\nend\n",
+        "arrived a 0\nend\n",
+        "test b\nend\n",
+        "end\nend\n",
+        "end\nstart a\n",
+        "start a\n",
+        "world 2 4 2\nend\n",
+    ];
+    for body in bodies {
+        assert_eq!(rt; count(rt.alloc(), HEAD, body)?, None, "{body:?}");
+    }
+    assert_eq!(rt; count(rt.alloc(), "", "")?, None);
+    Ok(())
+}
+
+#[test]
+fn heads_have_limits(rt: HostRuntime) -> Result<(), Fail> {
+    let heads = [
+        "world 65 4 2\nsend a 0 1 7 3 2 4\nrecv b 0 1 7 3 4 2\n",
+        "world 2 4 2\nsend a 0 2 7 3 2 4\nrecv b 0 2 7 3 4 2\n",
+        "world 2 4 2\nsend a 0 1 32768 3 2 4\nrecv b 0 1 32768 3 4 2\n",
+        "world 2 4 2\nsend a 0 1 7 3 2 4\nrecv a 0 1 7 3 4 2\n",
+        "world 2 4 2\nsend a 0 1 7 3 2 4\nrecv b 0 1 7 2 4 2\n",
+        "world 2 4 2\nsend a 0 1 7 3 2 4\nrecv b 0 1 7 3 4 3\n",
+        "world 2 4 2\nsend abcdefghijklmnopq 0 1 7 3 2 4\nrecv b 0 1 7 3 4 2\n",
+    ];
+    for head in heads {
+        assert_eq!(rt; count(rt.alloc(), head, "end\n")?, None, "{head:?}");
+    }
+    Ok(())
+}
+
+#[test]
+fn limits_are_reached(rt: HostRuntime) -> Result<(), Fail> {
+    let bodies = [
+        "ready a 1 0 -\nend\n",
+        "arrived b 0000000000000000001\nend\n",
+        "arrived b 4294967295\nend\n",
+    ];
+    for body in bodies {
+        assert_eq!(rt; count(rt.alloc(), HEAD, body)?, Some(5), "{body:?}");
+    }
+    let long =
+        "world 64 4 2\nsend abcdefghijklmnop 63 63 32767 15 2 4\nrecv Q_9 63 63 32767 15 4 2\n";
+    assert_eq!(rt; count(rt.alloc(), long, "end\n")?, Some(4));
+    Ok(())
+}
