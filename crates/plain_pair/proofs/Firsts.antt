@@ -44,14 +44,14 @@ so_far_new f n count i firsts row inside s new =
       each = λ j below. elim (cases_lt j (length firsts)) [
         | inl old ↦ rw (get_or_append_left firsts (i ∷ []) 0 j old) (later f i j _ (s.each j old))
         | inr here ↦
-          let is : length firsts ≡ j = omega arith in
-          rw (get_or_push firsts i 0 j is) record {
-            inside = omega arith;
-            here = omega arith;
-            before = λ c under.
-              let size = s.size (omega arith) in
-              let up = row-le f n count row c (i - 1) (omega arith) (omega arith) in omega arith;
-          }
+            let is : length firsts ≡ j = omega arith in
+            rw (get_or_push firsts i 0 j is) record {
+              inside = omega arith;
+              here = omega arith;
+              before = λ c under.
+                  let size = s.size (omega arith) in
+                  let up = row-le f n count row c (i - 1) (omega arith) (omega arith) in omega arith;
+            }
       ];
     }
 
@@ -60,28 +60,28 @@ pub so_far_same : (f : ℕ → ℕ) (n count i : ℕ) (firsts : List ℕ) → Is
 so_far_same f n count i firsts row inside s other =
     elim (cases_lt 0 i) [
       | inl some ↦
-        let size = s.size some in
-        let e : i - 1 + 1 ≡ i = omega arith in
-        let up = row.rises (i - 1) (omega arith) in
-        let step = row.step (i - 1) (omega arith) in
-        let there : f (i - 1 + 1) ≡ f i = ap f e in
-        record {
-          none = λ z. absurd (omega arith);
-          size = λ h. rw (pred i) (omega arith);
-          each = λ j below. later f i j _ (s.each j below);
-        }
+          let size = s.size some in
+          let e : i - 1 + 1 ≡ i = omega arith in
+          let up = row.rises (i - 1) (omega arith) in
+          let step = row.step (i - 1) (omega arith) in
+          let there : f (i - 1 + 1) ≡ f i = ap f e in
+          record {
+            none = λ z. absurd (omega arith);
+            size = λ h. rw (pred i) (omega arith);
+            each = λ j below. later f i j _ (s.each j below);
+          }
       | inr none ↦
-        let zero_is : i ≡ 0 = omega arith in
-        let empty = s.none zero_is in
-        let first : f i ≡ 0 = ap f zero_is ∙ row.first in
-        absurd (other (first ∙ sym empty))
+          let zero_is : i ≡ 0 = omega arith in
+          let empty = s.none zero_is in
+          let first : f i ≡ 0 = ap f zero_is ∙ row.first in
+          absurd (other (first ∙ sym empty))
     ]
 
 -- behind the last cell the firsts are whole, but for the number of cells
 cells_of : (f : ℕ → ℕ) (n count : ℕ) (firsts : List ℕ) → IsRow f n count → SoFar f n firsts → (j : ℕ) → j < count
     → let all = firsts ++ n ∷ [] in
-      (get_or all j 0 < get_or all (j + 1) 0) × (get_or all (j + 1) 0 ≤ n) × ((c : ℕ) → get_or all j 0 ≤ c → c < get_or all (j + 1) 0 → f c ≡ j)
-      × ((c : ℕ) → c < n → f c ≡ j → (get_or all j 0 ≤ c) × (c < get_or all (j + 1) 0))
+    (get_or all j 0 < get_or all (j + 1) 0) × (get_or all (j + 1) 0 ≤ n) × ((c : ℕ) → get_or all j 0 ≤ c → c < get_or all (j + 1) 0 → f c ≡ j)
+    × ((c : ℕ) → c < n → f c ≡ j → (get_or all j 0 ≤ c) × (c < get_or all (j + 1) 0))
 cells_of f n count firsts row s j below =
     let size : length firsts ≡ count = s.size row.some ∙ row.last in
     let h = s.each j (omega arith) in
@@ -89,25 +89,28 @@ cells_of f n count firsts row s j below =
     let first = get_or_append_left firsts (n ∷ []) 0 j (omega arith) in
     elim (cases_lt (j + 1) count) [
       | inl more ↦
-        let k = s.each (j + 1) (omega arith) in
-        let y = get_or firsts (j + 1) 0 in
-        let next = get_or_append_left firsts (n ∷ []) 0 (j + 1) (omega arith) in
-        let kh = k.here in let hh = h.here in let ki = k.inside in
-        rw (first, next) (
-          elim (cases_lt x y) [ inl ok ↦ ok | inr bad ↦ let up = row-le f n count row y x bad h.inside in absurd (omega arith) ],
-          omega arith,
-          (λ c low high. let up = row-le f n count row x c low (omega arith) in let down = k.before c high in omega arith),
-          (λ c in' is. (
-            elim (cases_lt c x) [ inl bad ↦ let z = h.before c bad in absurd (omega arith) | inr ok ↦ ok ],
-            elim (cases_lt c y) [ inl ok ↦ ok | inr bad ↦ let up = row-le f n count row y c bad in' in absurd (omega arith) ])))
+          let k = s.each (j + 1) (omega arith) in
+          let y = get_or firsts (j + 1) 0 in
+          let next = get_or_append_left firsts (n ∷ []) 0 (j + 1) (omega arith) in
+          let kh = k.here in let hh = h.here in let ki = k.inside in
+          rw (first, next) (
+            elim (cases_lt x y) [ inl ok ↦ ok | inr bad ↦ let up = row-le f n count row y x bad h.inside in absurd (omega arith) ],
+            omega arith,
+            (λ c low high. let up = row-le f n count row x c low (omega arith) in let down = k.before c high in omega arith),
+            (λ c in' is. (
+              elim (cases_lt c x) [ inl bad ↦ let z = h.before c bad in absurd (omega arith) | inr ok ↦ ok ],
+              elim (cases_lt c y) [ inl ok ↦ ok | inr bad ↦ let up = row-le f n count row y c bad in' in absurd (omega arith) ],
+            )),
+          )
       | inr last ↦
-        let next = get_or_push firsts n 0 (j + 1) (omega arith) in
-        let hh = h.here in
-        rw (first, next) (
-          h.inside,
-          omega arith,
-          (λ c low high. let up = row-le f n count row x c low high in let down = row-below f n count row c high in omega arith),
-          (λ c in' is. (elim (cases_lt c x) [ inl bad ↦ let z = h.before c bad in absurd (omega arith) | inr ok ↦ ok ], in')))
+          let next = get_or_push firsts n 0 (j + 1) (omega arith) in
+          let hh = h.here in
+          rw (first, next) (
+            h.inside,
+            omega arith,
+            (λ c low high. let up = row-le f n count row x c low high in let down = row-below f n count row c high in omega arith),
+            (λ c in' is. (elim (cases_lt c x) [ inl bad ↦ let z = h.before c bad in absurd (omega arith) | inr ok ↦ ok ], in')),
+          )
     ]
 
 pub row_is : (row : Row) (g : Shape) → IsShape g → IsRow (number row g) (cells g) (count row g)
@@ -122,7 +125,7 @@ firsts_whole row g firsts all v s is =
     rw is record {
       size = length_push firsts (cells g) ∙ (let z : length firsts + 1 ≡ count row g + 1 = omega arith in z);
       each = λ n below. let h = cells_of (number row g) (cells g) (count row g) firsts r s n below in
-        record { some = h.0; inside = h.1; numbered = h.2; all = h.3 };
+          record { some = h.0; inside = h.1; numbered = h.2; all = h.3 };
     }
 
 -- the cells of a geometry, laid out: how many there are, and the number of each

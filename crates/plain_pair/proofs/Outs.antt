@@ -16,12 +16,12 @@ none_missing f a (suc n) =
     let split = sum_by-cons (λ p. cond (not (f p)) 1 0) a (range_with_len (a + 1) n) in
     elim (cases_Bool (f a)) [
       | inl there ↦
-        let e : count_by (λ p. not (f p)) (range_with_len a (suc n)) ≡ count_by (λ p. not (f p)) (range_with_len (a + 1) n) =
-            split ∙ rw there (let z : 0 + count_by (λ p. not (f p)) (range_with_len (a + 1) n) ≡ count_by (λ p. not (f p)) (range_with_len (a + 1) n) = omega arith in z) in
-        rw (e, there) rest
+          let e : count_by (λ p. not (f p)) (range_with_len a (suc n)) ≡ count_by (λ p. not (f p)) (range_with_len (a + 1) n) =
+          split ∙ rw there (let z : 0 + count_by (λ p. not (f p)) (range_with_len (a + 1) n) ≡ count_by (λ p. not (f p)) (range_with_len (a + 1) n) = omega arith in z) in
+          rw (e, there) rest
       | inr missing ↦
-        let e : count_by (λ p. not (f p)) (range_with_len a (suc n)) ≡ 1 + count_by (λ p. not (f p)) (range_with_len (a + 1) n) = split ∙ rw missing refl in
-        rw (e, missing) (ne_eqb _ _ (λ z. omega arith))
+          let e : count_by (λ p. not (f p)) (range_with_len a (suc n)) ≡ 1 + count_by (λ p. not (f p)) (range_with_len (a + 1) n) = split ∙ rw missing refl in
+          rw (e, missing) (ne_eqb _ _ (λ z. omega arith))
     ]
 
 -- a count over a list is a count over its places
@@ -44,5 +44,5 @@ out-missing k missing s =
     let g = k.shape in
     let size = s.sizes.missing_size in
     let counts = count-places (λ m. m == 0) (is_whole g k.marked) missing 0 (λ i inside.
-        ap (λ m. m == 0) (s.counts i (omega arith)) ∙ whole-missing g k.marked i ∙ ap (is_whole g k.marked) (let z : i ≡ 0 + i = omega arith in z)) in
+    ap (λ m. m == 0) (s.counts i (omega arith)) ∙ whole-missing g k.marked i ∙ ap (is_whole g k.marked) (let z : i ≡ 0 + i = omega arith in z)) in
     rw (counts, size) refl

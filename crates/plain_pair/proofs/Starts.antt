@@ -70,8 +70,8 @@ sound_start_send k missing needs s idle more is =
       counts = λ i inside. rw is (get_or-map-range_with_len (need_count g) 0 (pieces g) i i 0 inside (omega arith)) ∙ sym (unmarked-none g (length k.marked) i);
       whole = λ e. absurd (false≢true (sym e));
       arrived = λ busy q x inside taken place there.
-        let old = s.arrived busy q x inside taken place there in
-        kept_mark-before (sending_kept k) k.received _ (let h = kept_mark-within k k.received _ old in omega arith);
+          let old = s.arrived busy q x inside taken place there in
+          kept_mark-before (sending_kept k) k.received _ (let h = kept_mark-within k k.received _ old in omega arith);
     }
 
 -- a round after the released one is at least 1
@@ -93,13 +93,13 @@ kept_out-whole k v whole =
     let g = k.shape in
     elim (cases_lt 0 k.sent) [
       | inl some ↦
-        let all = count-all (is_whole g k.marked) 0 (pieces g) (λ i low high. is_whole-all g v k.marked i (omega arith) (λ p inside. whole p some inside)) in
-        let split : (k.sent - 1) * pieces g + pieces g ≡ k.sent * pieces g =
-            ap (λ n. (k.sent - 1) * pieces g + n) (sym (one-mul (pieces g))) ∙ sym (add-mul (k.sent - 1) 1 (pieces g)) ∙ ap (λ n. n * pieces g) (let z : k.sent - 1 + 1 ≡ k.sent = omega arith in z) in
-        rw (ne_eqb k.sent 0 (λ e. omega arith), all) split
+          let all = count-all (is_whole g k.marked) 0 (pieces g) (λ i low high. is_whole-all g v k.marked i (omega arith) (λ p inside. whole p some inside)) in
+          let split : (k.sent - 1) * pieces g + pieces g ≡ k.sent * pieces g =
+          ap (λ n. (k.sent - 1) * pieces g + n) (sym (one-mul (pieces g))) ∙ sym (add-mul (k.sent - 1) 1 (pieces g)) ∙ ap (λ n. n * pieces g) (let z : k.sent - 1 + 1 ≡ k.sent = omega arith in z) in
+          rw (ne_eqb k.sent 0 (λ e. omega arith), all) split
       | inr no_round ↦
-        let zero_is : k.sent ≡ 0 = omega arith in
-        rw zero_is (sym (zero-mul (pieces g)))
+          let zero_is : k.sent ≡ 0 = omega arith in
+          rw zero_is (sym (zero-mul (pieces g)))
     ]
 
 pub stands_start_send : (k : Kept) (missing : List ℕ) (r : Record) → IsSound k missing → k.sending ≡ false → StandsFor k r → StandsFor (sending_kept k) (started_send r)
@@ -117,31 +117,31 @@ stands_start_send k missing r s idle st =
       out = kept_out-sending k s.shape ∙ sym (kept_out-whole k s.shape (λ p some inside. s.whole idle some p inside)) ∙ st.out
           ∙ sym (pieces_out-new g s.shape r (started_send r) refl);
       marks = λ round p later upto inside.
-        elim (cases_lt (length r.rounds) round) [
-          | inl new ↦
-            let same : round ≡ length r.rounds + 1 = omega arith in
-            let here : round ≡ k.sent + 1 = (let e = st.sent in omega arith) in
-            let unmarked_is : kept_mark (sending_kept k) round p ≡ false = rw (le-ltb round (k.sent + 1) (omega arith), eq-eqb round (k.sent + 1) here) (has-none (length k.marked) p) in
-            unmarked_is ∙ sym (is_marked-none p) ∙ ap (λ x. is_marked x p) (sym (round_of-new r.rounds no_marks round same))
-          | inr old ↦
-            let before : round < k.sent + 1 = (let e = st.sent in omega arith) in
-            let was : kept_mark k round p ≡ true = elim (cases_lt round k.sent) [
-              | inl less ↦ kept_mark-before k round p less
-              | inr same ↦ let here : round ≡ k.sent = omega arith in
-                rw (here, le-ltb k.sent k.sent (omega arith), eq-eqb k.sent k.sent refl) (s.whole idle (omega arith) p inside)
-            ] in
-            kept_mark-before (sending_kept k) round p before ∙ sym was ∙ st.marks round p later old inside
-            ∙ ap (λ x. is_marked x p) (sym (round_of-old r no_marks round (later_pos _ _ later) old))
-        ];
+          elim (cases_lt (length r.rounds) round) [
+            | inl new ↦
+                let same : round ≡ length r.rounds + 1 = omega arith in
+                let here : round ≡ k.sent + 1 = (let e = st.sent in omega arith) in
+                let unmarked_is : kept_mark (sending_kept k) round p ≡ false = rw (le-ltb round (k.sent + 1) (omega arith), eq-eqb round (k.sent + 1) here) (has-none (length k.marked) p) in
+                unmarked_is ∙ sym (is_marked-none p) ∙ ap (λ x. is_marked x p) (sym (round_of-new r.rounds no_marks round same))
+            | inr old ↦
+                let before : round < k.sent + 1 = (let e = st.sent in omega arith) in
+                let was : kept_mark k round p ≡ true = elim (cases_lt round k.sent) [
+                  | inl less ↦ kept_mark-before k round p less
+                  | inr same ↦ let here : round ≡ k.sent = omega arith in
+                      rw (here, le-ltb k.sent k.sent (omega arith), eq-eqb k.sent k.sent refl) (s.whole idle (omega arith) p inside)
+                ] in
+                kept_mark-before (sending_kept k) round p before ∙ sym was ∙ st.marks round p later old inside
+                ∙ ap (λ x. is_marked x p) (sym (round_of-old r no_marks round (later_pos _ _ later) old))
+          ];
       bytes = λ round x later upto inside marked free.
-        elim (cases_lt (length r.rounds) round) [
-          | inl new ↦
-            let same : round ≡ length r.rounds + 1 = omega arith in
-            absurd (false≢true (sym (is_marked-none _) ∙ ap (λ z. is_marked z (x / g.send_bytes)) (sym (round_of-new r.rounds no_marks round same)) ∙ marked))
-          | inr old ↦
-            let e = round_of-old r no_marks round (later_pos _ _ later) old in
-            st.bytes round x later old inside (ap (λ z. is_marked z (x / g.send_bytes)) (sym e) ∙ marked) free ∙ ap (λ z. byte_at g z x) (sym e)
-        ];
+          elim (cases_lt (length r.rounds) round) [
+            | inl new ↦
+                let same : round ≡ length r.rounds + 1 = omega arith in
+                absurd (false≢true (sym (is_marked-none _) ∙ ap (λ z. is_marked z (x / g.send_bytes)) (sym (round_of-new r.rounds no_marks round same)) ∙ marked))
+            | inr old ↦
+                let e = round_of-old r no_marks round (later_pos _ _ later) old in
+                st.bytes round x later old inside (ap (λ z. is_marked z (x / g.send_bytes)) (sym e) ∙ marked) free ∙ ap (λ z. byte_at g z x) (sym e)
+          ];
     }
 
 -- what is kept once the receive is started
@@ -207,8 +207,8 @@ sound_first g v needs is = record {
     missing_size = rw is (length-map-range_with_len (need_count g) 0 (pieces g));
     buffers_size = length-replicate _ _;
     full = λ place q low high away.
-      ap length (get_or-replicate (g.depth * g.recv_parts) (place * g.recv_parts + q) (replicate g.recv_bytes 0) [] (place_below place q g.depth g.recv_parts low high))
-      ∙ length-replicate _ _;
+        ap length (get_or-replicate (g.depth * g.recv_parts) (place * g.recv_parts + q) (replicate g.recv_bytes 0) [] (place_below place q g.depth g.recv_parts low high))
+        ∙ length-replicate _ _;
   };
   rounds = record {
     sent = omega arith;
@@ -246,8 +246,8 @@ start_ok false k n is =
     elim (cases_Bool (k == 2147483647)) [
       | inl last ↦ let e : Ok n ≡ Err RoundsSpent = is ∙ cond-true _ _ _ last in cc
       | inr other ↦
-        let e : Ok n ≡ Ok (k + 1) = is ∙ cond-false _ _ _ other in
-        (refl, cc, eqb-false _ _ other)
+          let e : Ok n ≡ Ok (k + 1) = is ∙ cond-false _ _ _ other in
+          (refl, cc, eqb-false _ _ other)
     ]
 
 -- the object after an answered start of the send, and of the receive

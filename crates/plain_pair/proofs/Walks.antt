@@ -13,8 +13,8 @@ pub step_some : (w : Walked) (cell : Cell) → Some cell ≡ next_cell w → (w.
 step_some w cell is =
     elim (cases_Bool (nat_lt w.place (cells w.shape))) [
       | inl more ↦
-        let e : Some cell ≡ Some (cell_at w.shape w.place) = is ∙ cond-true _ _ _ more in
-        (ltb-true _ _ more, cc, rw more refl)
+          let e : Some cell ≡ Some (cell_at w.shape w.place) = is ∙ cond-true _ _ _ more in
+          (ltb-true _ _ more, cc, rw more refl)
       | inr none ↦ let e : Some cell ≡ None = is ∙ cond-false _ _ _ none in cc
     ]
 

@@ -1,4 +1,5 @@
 pub mod Record
+pub mod Taken
 pub mod Moves
 pub mod Kept
 pub mod StandsFor

@@ -1,12 +1,20 @@
 -- What each call answers by the record, and the record after it.
 use Rattle.std.specs.Prelude.{◌≡◌, ℕ, ◌+◌, ◌-◌, Bool, true, ◌&&◌, ◌==◌, not, nat_lt, if◌then◌else◌, Option, Some, None, Result, Ok, Err, is_ok, List, [], ◌∷◌, ◌++◌, length, slice_set}
+use Rattle.std.specs.Option.{option_map_or}
 use Rattle.std.specs.FinMap as rounds
 use Rattle.std.specs.FinSet as parts
 use Rattle.part_geometry.specs.declared.answers.Marked.{Marked}
 use Rattle.part_geometry.specs.declared.answers.StartFault.{StartFault}
 use Rattle.part_geometry.specs.declared.answers.StartFault.TheVariants.{AlreadyActive, RoundsSpent}
 use Rattle.part_geometry.specs.Shape.{Shape}
-use Rattle.plain_pair.specs.Record.{Record, Round, send_round, round_of, no_marks, no_parts}
+use Rattle.plain_pair.specs.declared.answers.PlainLook.{PlainLook}
+use Rattle.plain_pair.specs.declared.answers.PlainLook.TheVariants as look
+use Rattle.plain_pair.specs.declared.answers.PlainRefusal.{PlainRefusal}
+use Rattle.plain_pair.specs.declared.answers.PlainRefusal.TheVariants.{BadPartition, BadLength, NotActive, AlreadyMarked}
+use Rattle.plain_pair.specs.declared.answers.PlainTake.{PlainTake}
+use Rattle.plain_pair.specs.declared.answers.PlainTake.TheVariants as take
+use Rattle.plain_pair.specs.Taken.{Taken}
+use Rattle.plain_pair.specs.Record.{Record, Round, send_round, round_of, is_marked, no_marks, no_parts, missing_piece, pieces_out, bytes_of}
 
 -- a side may start its next round, unless it is active in this one or this is the last
 abbrev pub start_answer : Bool → ℕ → Result ℕ StartFault
@@ -41,9 +49,43 @@ after_start_recv r = on_ok (start_recv_answer r) (started_recv r) r
 abbrev pub marked : Record → ℕ → List ℕ → Record
 marked r p bytes = record r { rounds = slice_set r.rounds (send_round r - 1) (rounds.insert (round_of r (send_round r)) p bytes) }
 
+-- what a take of partition q gives
+abbrev pub taken_of : Shape → Record → ℕ → Taken
+taken_of g r q = record { round = r.received; partition = q; bytes = bytes_of g (round_of r r.received) q }
+
 -- a take, and a return
 abbrev pub took : Record → ℕ → Record
 took r q = record r { taken = parts.insert r.taken q }
 
 abbrev pub gave_back : Record → ℕ → Record
 gave_back r q = record r { back = parts.insert r.back q }
+
+-- a mark is refused by the first of these causes, and else tells how many pieces it sent out
+abbrev pub pready_answer : Shape → Record → ℕ → ℕ → List ℕ → Result Marked PlainRefusal
+pready_answer g r k p bytes =
+    if not (nat_lt p g.send_parts) then Err BadPartition else (
+    if not (length bytes == g.send_bytes) then Err BadLength else (
+    if not (r.sending && (k == send_round r)) then Err NotActive else (
+    if is_marked (round_of r k) p then Err AlreadyMarked else
+    Ok record { round = k; partition = p; sent = pieces_out g (marked r p bytes) - pieces_out g r })))
+
+abbrev pub after_pready : Shape → Record → ℕ → ℕ → List ℕ → Record
+after_pready g r k p bytes = on_ok (pready_answer g r k p bytes) (marked r p bytes) r
+
+-- whether a receive partition has arrived in the receiver's round
+abbrev pub parrived_answer : Shape → Record → ℕ → PlainLook
+parrived_answer g r q =
+    if not r.receiving then look.Idle else (
+    if not (nat_lt q g.recv_parts) then look.BadPartition else
+    option_map_or look.NotYet (missing_piece g (round_of r r.received) q) look.Arrived)
+
+-- a take is refused by the first of these causes, and else gives the bytes that were marked in the round
+abbrev pub take_answer : Shape → Record → ℕ → Result Taken PlainTake
+take_answer g r q =
+    if not r.receiving then Err take.Idle else (
+    if not (nat_lt q g.recv_parts) then Err take.BadPartition else (
+    if parts.contains r.taken q then Err (take.AlreadyTaken r.received) else
+    option_map_or (λ i. Err (take.NotYet i)) (missing_piece g (round_of r r.received) q) (Ok (taken_of g r q))))
+
+abbrev pub after_take : Shape → Record → ℕ → Record
+after_take g r q = on_ok (take_answer g r q) (took r q) r

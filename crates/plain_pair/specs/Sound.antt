@@ -21,7 +21,7 @@ pub record HasSizes (kept : Kept) (missing : List ℕ) : Type 0 where
   pub missing_size : length missing ≡ pieces kept.shape
   pub buffers_size : length kept.buffers ≡ kept.shape.depth * kept.shape.recv_parts
   pub full : (place q : ℕ) → place < kept.shape.depth → q < kept.shape.recv_parts → is_away kept place q ≡ false
-    → length (slice_index_or kept.buffers (place * kept.shape.recv_parts + q) []) ≡ kept.shape.recv_bytes
+      → length (slice_index_or kept.buffers (place * kept.shape.recv_parts + q) []) ≡ kept.shape.recv_bytes
 
 -- the rounds of the sender are ahead of the released one by at most the depth, and those of the receiver by one
 pub record HasRounds (kept : Kept) : Type 0 where
@@ -41,4 +41,4 @@ pub record IsSound (kept : Kept) (missing : List ℕ) : Type 0 where
   pub counts : (i : ℕ) → i < pieces kept.shape → slice_index missing i ≡ unmarked kept.shape kept.marked i
   pub whole : kept.sending ≡ false → 0 < kept.sent → (p : ℕ) → p < kept.shape.send_parts → has kept.marked p ≡ true
   pub arrived : kept.receiving ≡ true → (q x : ℕ) → q < kept.shape.recv_parts → has kept.taken q ≡ true → x < send_total kept.shape
-    → x / kept.shape.recv_bytes ≡ q → kept_mark kept kept.received (x / kept.shape.send_bytes) ≡ true
+      → x / kept.shape.recv_bytes ≡ q → kept_mark kept kept.received (x / kept.shape.send_bytes) ≡ true

@@ -17,10 +17,10 @@ pub record StandsFor (kept : Kept) (r : Record) : Type 0 where
   pub back : (q : ℕ) → q < kept.shape.recv_parts → has kept.back q ≡ parts.contains r.back q
   pub out : kept_out kept ≡ pieces_out kept.shape r
   pub marks : (k p : ℕ) → r.released < k → k ≤ send_round r → p < kept.shape.send_parts
-    → kept_mark kept k p ≡ is_marked (round_of r k) p
+      → kept_mark kept k p ≡ is_marked (round_of r k) p
   pub bytes : (k x : ℕ) → r.released < k → k ≤ send_round r → x < send_total kept.shape
-    → is_marked (round_of r k) (x / kept.shape.send_bytes) ≡ true → was_taken kept k x ≡ false
-    → kept_byte kept k x ≡ byte_at kept.shape (round_of r k) x
+      → is_marked (round_of r k) (x / kept.shape.send_bytes) ≡ true → was_taken kept k x ≡ false
+      → kept_byte kept k x ≡ byte_at kept.shape (round_of r k) x
 
 -- the call answers as every record says that the pair stood for, and then stands for the record after it
 abbrev pub Follows : {A : Type 0} → Kept → Kept → A → (Record → A) → (Record → Record) → Type 0

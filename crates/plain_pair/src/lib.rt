@@ -1,9 +1,11 @@
 //! A pair of one thread: a partitioned send and its receive (MPI 4.0, chapter 4), exact by a record of rounds.
 #![tactic(auto)]
 
+mod answers;
 mod buffer;
 mod flags;
 mod pair;
 mod tables;
 
+pub use answers::{PlainLook, PlainRefusal, PlainTake};
 pub use pair::{LAST_ROUND, PlainClosed, PlainPair};

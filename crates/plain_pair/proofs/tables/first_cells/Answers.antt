@@ -14,10 +14,10 @@ loop-c-preserved c =
     let size : c.len.result ≡ length c.loop-c.firsts.items = omega (arith, c.loop-c.firsts.ok.0) in
     elim c.if-number-len.branch [
       | then-number-len+in_ok-push w ↦
-        so_far_pushed _ _ _ _ _ _ _ _ v c.requires c.loop-c-test.true c.loop-c.invariant c.number.ensures (w.if-number-len.true ∙ size)
-        (ap (λ x. x.items) w.firsts-is ∙ w.in_ok-push.ensures.items)
+          so_far_pushed _ _ _ _ _ _ _ _ v c.requires c.loop-c-test.true c.loop-c.invariant c.number.ensures (w.if-number-len.true ∙ size)
+          (ap (λ x. x.items) w.firsts-is ∙ w.in_ok-push.ensures.items)
       | else-number-len w ↦
-        rw w.firsts-is (so_far_kept _ _ _ _ _ _ _ v c.requires c.loop-c-test.true c.loop-c.invariant c.number.ensures (λ e. w.if-number-len.false (e ∙ sym size)))
+          rw w.firsts-is (so_far_kept _ _ _ _ _ _ _ v c.requires c.loop-c-test.true c.loop-c.invariant c.number.ensures (λ e. w.if-number-len.false (e ∙ sym size)))
     ]
 
 pub returns : goal.returns
