@@ -6,3 +6,5 @@ pub mod Rounds
 pub mod Starts
 pub mod Outs
 pub mod Closing
+pub mod Writing
+pub mod Storing
