@@ -1,0 +1,37 @@
+//! The work of a mark: its bytes are stored, and the pieces that it completes are counted.
+
+ghost use Rattle.std.specs.Prelude.{◌≡◌, ℕ, ◌+◌, ◌-◌, ◌*◌, ◌<◌, ◌≤◌, ◌==◌, ◌&&◌, nat_le, if◌then◌else◌, [], length, count_by, slice_index};
+ghost use Rattle.std.specs.List.{range_with_len};
+ghost use Rattle.part_geometry.specs.Pieces.{pieces};
+ghost use Rattle.plain_pair.specs.Stored.{Stores, HasRoom};
+
+use crate::buffer::{Buffer, write_at};
+use crate::tables::Tables;
+
+/// Stores the bytes of send partition `p` in the buffers of the receive partitions, of which the first is at
+/// `base`.
+pub(crate) fn store(
+    tables: &Tables,
+    buffers: &mut Vec<Buffer>,
+    base: usize,
+    p: usize,
+    bytes: &[u8],
+)
+    requires part { p < tables.now.send_parts }
+    requires length { length bytes.now ≡ tables.now.send_bytes }
+    requires buffers { base + tables.now.recv_parts ≤ length buffers.old.items }
+    requires room { HasRoom tables.now base (p * tables.now.send_bytes) ((p + 1) * tables.now.send_bytes) buffers.old.items }
+    ensures { Stores tables.now base (p * tables.now.send_bytes) ((p + 1) * tables.now.send_bytes) bytes.now
+        buffers.old.items buffers.new.items }
+{
+    let recv_bytes = tables.geometry().recv_bytes() as usize;
+    let (first, end) = tables.send_cells(p);
+    let low = tables.cell(first).start as usize;
+    for c in first..end {
+        let cell = tables.cell(c);
+        let start = cell.start as usize;
+        let recv = cell.recv as usize;
+        let piece = &bytes[start - low..cell.end as usize - low];
+        write_at(buffers, base + recv, start - recv * recv_bytes, piece);
+    }
+}
