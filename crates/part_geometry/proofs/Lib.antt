@@ -5,3 +5,4 @@ pub mod Parts
 pub mod Division
 pub mod PieceFacts
 pub mod WalkFacts
+pub mod ReaderFacts
