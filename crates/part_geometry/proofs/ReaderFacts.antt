@@ -9,8 +9,8 @@ use Rattle.part_geometry.specs.Shape.{Shape, IsShape}
 use Rattle.part_geometry.specs.Cells.{cells, start, end, send_of, recv_of}
 use Rattle.part_geometry.specs.Pieces.{Run, pieces, first_cell, last_cell, piece_of, Touches, first_part, last_part, need_count, need}
 use Rattle.part_geometry.specs.Walk.{Walked, cell_at, next_cell, passed}
-use Rattle.part_geometry.proofs.Bounds.{cells-pos}
-use Rattle.part_geometry.proofs.Parts.{end-min, send-next-more, recv-next-more, send-mono, recv-mono, send-below, recv-below}
+use Rattle.part_geometry.proofs.Bounds.{cells-pos, start-rises, end-start}
+use Rattle.part_geometry.proofs.Parts.{start-le, end-min, send-next-more, recv-next-more, send-mono, recv-mono, send-below, recv-below}
 use Rattle.part_geometry.proofs.PieceFacts.{piece-ordered, piece-last, piece_of-inside, piece_of-holds, before-piece, upto-piece, Touches-range, need_count-pos}
 use Rattle.part_geometry.proofs.WalkFacts.{some_next}
 
@@ -185,3 +185,11 @@ first_part-touched g v i inside =
 pub last_part-below : (g : Shape) (v : IsShape g) (i : ℕ) → i < pieces g → last_part g i < g.send_parts
 unfolding last_part
 last_part-below g v i inside = send-below g v (last_cell g i) (piece-ordered g i inside).1
+
+-- a piece ends behind its start
+pub piece-bytes : (g : Shape) (v : IsShape g) (i : ℕ) → i < pieces g → start g (first_cell g i) < end g (last_cell g i)
+piece-bytes g v i inside =
+    let o = piece-ordered g i inside in
+    let before = start-le g v (first_cell g i) (last_cell g i) o.0 (let h = o.1 in omega arith) in
+    let rise = start-rises g v (last_cell g i) o.1 in
+    let e = end-start g (last_cell g i) in omega arith

@@ -107,6 +107,7 @@ impl Geometry {
         requires { i < pieces self.now }
         ensures value { result ≡ (first_cell self.now i, last_cell self.now i) }
         ensures inside { (result.0 ≤ result.1) × (result.1 < cells self.now) }
+        ensures bytes { start self.now result.0 < end self.now result.1 }
         ensures rule { IsRun self.now (first_cell self.now i) result }
         ensures limits { IsShape self.now }
     {

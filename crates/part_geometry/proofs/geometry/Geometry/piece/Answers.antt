@@ -1,7 +1,7 @@
 use Rattle.std.proofs.Common.{◌≡◌, ◌+◌, ◌-◌, ◌<◌, ◌≤◌, refl, sym, ◌∙◌, arith}
 use Rattle.part_geometry.specs.Pieces.{last_cell}
 use Rattle.part_geometry.proofs.PieceFacts.{piece-ordered, piece-run}
-use Rattle.part_geometry.proofs.ReaderFacts.{IsCounted, split-next, split-small, split-whole}
+use Rattle.part_geometry.proofs.ReaderFacts.{piece-bytes, IsCounted, split-next, split-small, split-whole}
 use Rattle.part_geometry.proofs.geometry.Geometry.piece.Goals as goal
 use Rattle.part_geometry.proofs.geometry.Geometry.piece.Goals.{then-cell-i, else-cell-i}
 
@@ -47,6 +47,12 @@ pub returns-clause-inside : goal.returns-clause-inside
 returns-clause-inside c =
     let h = split-whole _ _ _ _ _ c.requires c.loop-cell.invariant (sym c.advance.ensures.cell ∙ c.in_default.is) in
     let o = piece-ordered c.args.self.now c.args.i c.requires in (omega arith, omega arith)
+
+pub returns-clause-bytes : goal.returns-clause-bytes
+returns-clause-bytes c =
+    let h = split-whole _ _ _ _ _ c.requires c.loop-cell.invariant (sym c.advance.ensures.cell ∙ c.in_default.is) in
+    let last : c.loop-cell.end - 1 ≡ last_cell c.args.self.now c.args.i = omega arith in
+    rw (h.0, last) (piece-bytes _ c.walk-walk.ensures.limits c.args.i c.requires)
 
 pub returns-clause-rule : goal.returns-clause-rule
 returns-clause-rule c =
