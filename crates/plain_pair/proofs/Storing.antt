@@ -15,7 +15,7 @@ use Rattle.part_geometry.proofs.Rows.{send-row}
 use Rattle.plain_pair.specs.declared.tables.Row.TheVariants.{Send}
 use Rattle.plain_pair.specs.Tables.{AreCellsOf}
 use Rattle.plain_pair.specs.Written.{written}
-use Rattle.plain_pair.specs.Stored.{byte_in, Stores, HasRoom}
+use Rattle.plain_pair.specs.Stored.{byte_in, Stores, HasRoom, CanStore, cell_piece, cell_offset, cell_stored}
 use Rattle.plain_pair.proofs.Writing.{length-written, written-inside, written-before, written-behind}
 
 -- the first cell of a send partition starts where the partition does
@@ -90,36 +90,18 @@ stored_none g base low bytes old = record {
   apart = λ j out. refl;
 }
 
--- a cell's write: its piece of the bytes, into the buffer of its receive partition
-pub record CellWrite (g : Shape) (base low c : ℕ) (bytes piece : List ℕ) (mid : List (List ℕ)) : Type 0 where
-  pub shape : IsShape g
-  pub cell : c < cells g
-  pub low_le : low ≤ start g c
-  pub high_le : end g c ≤ low + length bytes
-  pub index : base + recv_of g c < length mid
-  pub room : length (get_or mid (base + recv_of g c) []) ≡ g.recv_bytes
-  pub piece_is : piece ≡ between (start g c - low) (end g c - low) bytes
-
--- the place in that buffer
-abbrev pub cell_at_place : Shape → ℕ → ℕ
-cell_at_place g c = start g c - recv_of g c * g.recv_bytes
-
-abbrev pub after_write : Shape → ℕ → ℕ → List ℕ → List (List ℕ) → List (List ℕ)
-after_write g base c piece mid =
-    set mid (base + recv_of g c) (written (get_or mid (base + recv_of g c) []) (cell_at_place g c) piece)
-
 -- the numbers of a cell's write
-record Numbers (g : Shape) (base low c : ℕ) (bytes piece : List ℕ) (mid : List (List ℕ)) : Type 0 where
-  rises : start g c < end g c
-  starts : recv_of g c * g.recv_bytes ≤ start g c
-  ends : end g c ≤ (recv_of g c + 1) * g.recv_bytes
-  next : (recv_of g c + 1) * g.recv_bytes ≡ recv_of g c * g.recv_bytes + g.recv_bytes
-  size : length piece ≡ end g c - start g c
-  fits : cell_at_place g c + length piece ≤ length (get_or mid (base + recv_of g c) [])
+pub record Numbers (g : Shape) (base low c : ℕ) (bytes : List ℕ) (mid : List (List ℕ)) : Type 0 where
+  pub rises : start g c < end g c
+  pub starts : recv_of g c * g.recv_bytes ≤ start g c
+  pub ends : end g c ≤ (recv_of g c + 1) * g.recv_bytes
+  pub next : (recv_of g c + 1) * g.recv_bytes ≡ recv_of g c * g.recv_bytes + g.recv_bytes
+  pub size : length (cell_piece g low c bytes) ≡ end g c - start g c
+  pub fits : cell_offset g c + length (cell_piece g low c bytes) ≤ length (get_or mid (base + recv_of g c) [])
 
-numbers : (g : Shape) (base low c : ℕ) (bytes piece : List ℕ) (mid : List (List ℕ)) → CellWrite g base low c bytes piece mid → Numbers g base low c bytes piece mid
+pub numbers : (g : Shape) (base low c : ℕ) (bytes : List ℕ) (mid : List (List ℕ)) → CanStore g base low c bytes mid → Numbers g base low c bytes mid
 unfolding recv_of
-numbers g base low c bytes piece mid w =
+numbers g base low c bytes mid w =
     let v = w.shape in
     let rise = start-rises g v c w.cell in let e = end-start g c in
     let pos : 0 < g.recv_bytes = omega (arith, v.recv_bytes.0) in
@@ -128,7 +110,7 @@ numbers g base low c bytes piece mid w =
     let split : (start g c / g.recv_bytes + 1) * g.recv_bytes ≡ start g c / g.recv_bytes * g.recv_bytes + g.recv_bytes = omega arith in
     let hl = w.high_le in let ll = w.low_le in
     let t = length-take-le (end g c - low - (start g c - low)) (drop (start g c - low) bytes) (let d = length-drop (start g c - low) bytes in omega arith) in
-    let size : length piece ≡ end g c - start g c = ap length w.piece_is ∙ t ∙ (let z : end g c - low - (start g c - low) ≡ end g c - start g c = omega arith in z) in
+    let size : length (cell_piece g low c bytes) ≡ end g c - start g c = t ∙ (let z : end g c - low - (start g c - low) ≡ end g c - start g c = omega arith in z) in
     let room = w.room in
     record { rises = omega arith; starts = starts; ends = le; next = split; size = size; fits = omega arith }
 
@@ -136,27 +118,27 @@ numbers g base low c bytes piece mid w =
 quotient_is : (x q r : ℕ) → 0 < r → q * r ≤ x → x < (q + 1) * r → x / r ≡ q
 quotient_is x q r pos low high = div-eq_of_lt-le r low high
 
-inside_cell : (g : Shape) (base low c : ℕ) (bytes piece : List ℕ) (mid : List (List ℕ)) → CellWrite g base low c bytes piece mid → (x : ℕ) → start g c ≤ x → x < end g c
-    → byte_in g (after_write g base c piece mid) base x ≡ get_or bytes (x - low) 0
-inside_cell g base low c bytes piece mid w x from to =
-    let n = numbers g base low c bytes piece mid w in
+inside_cell : (g : Shape) (base low c : ℕ) (bytes : List ℕ) (mid : List (List ℕ)) → CanStore g base low c bytes mid → (x : ℕ) → start g c ≤ x → x < end g c
+    → byte_in g (cell_stored g base low c bytes mid) base x ≡ get_or bytes (x - low) 0
+inside_cell g base low c bytes mid w x from to =
+    let n = numbers g base low c bytes mid w in
     let v = w.shape in
     let pos : 0 < g.recv_bytes = omega (arith, v.recv_bytes.0) in
     let ns = n.starts in let ne = n.ends in let nn = n.next in let nz = n.size in let nf = n.fits in
     let q : x / g.recv_bytes ≡ recv_of g c = quotient_is x (recv_of g c) g.recv_bytes pos (omega arith) (omega arith) in
     let o : x % g.recv_bytes ≡ x - recv_of g c * g.recv_bytes = (let m = ap (λ z. z * g.recv_bytes) q in omega arith) in
-    let there = get_or-set_same mid (base + recv_of g c) (written (get_or mid (base + recv_of g c) []) (cell_at_place g c) piece) [] w.index in
-    let byte = written-inside (get_or mid (base + recv_of g c) []) piece (cell_at_place g c) (x - recv_of g c * g.recv_bytes) nf (omega arith) (omega arith) in
-    let place : x - recv_of g c * g.recv_bytes - cell_at_place g c ≡ x - start g c = omega arith in
+    let there = get_or-set_same mid (base + recv_of g c) (written (get_or mid (base + recv_of g c) []) (cell_offset g c) (cell_piece g low c bytes)) [] w.index in
+    let byte = written-inside (get_or mid (base + recv_of g c) []) (cell_piece g low c bytes) (cell_offset g c) (x - recv_of g c * g.recv_bytes) nf (omega arith) (omega arith) in
+    let place : x - recv_of g c * g.recv_bytes - cell_offset g c ≡ x - start g c = omega arith in
     let ll = w.low_le in
-    rw (q, o, there, byte, place, w.piece_is)
+    rw (q, o, there, byte, place)
     (get_or-take (end g c - low - (start g c - low)) (drop (start g c - low) bytes) (x - start g c) 0 (omega arith)
       ∙ get_or-drop (start g c - low) bytes (x - start g c) 0 ∙ ap (λ z. get_or bytes z 0) (let z : start g c - low + (x - start g c) ≡ x - low = omega arith in z))
 
-outside_cell : (g : Shape) (base low c : ℕ) (bytes piece : List ℕ) (mid : List (List ℕ)) → CellWrite g base low c bytes piece mid → (x : ℕ) → (x < start g c) ⊎ (end g c ≤ x)
-    → byte_in g (after_write g base c piece mid) base x ≡ byte_in g mid base x
-outside_cell g base low c bytes piece mid w x out =
-    let n = numbers g base low c bytes piece mid w in
+outside_cell : (g : Shape) (base low c : ℕ) (bytes : List ℕ) (mid : List (List ℕ)) → CanStore g base low c bytes mid → (x : ℕ) → (x < start g c) ⊎ (end g c ≤ x)
+    → byte_in g (cell_stored g base low c bytes mid) base x ≡ byte_in g mid base x
+outside_cell g base low c bytes mid w x out =
+    let n = numbers g base low c bytes mid w in
     let v = w.shape in
     let pos : 0 < g.recv_bytes = omega (arith, v.recv_bytes.0) in
     let ns = n.starts in let ne = n.ends in let nn = n.next in let nz = n.size in let nf = n.fits in let nr = n.rises in
@@ -165,13 +147,13 @@ outside_cell g base low c bytes piece mid w x out =
       | inl q ↦
         let o : x % g.recv_bytes ≡ x - recv_of g c * g.recv_bytes = (let m = ap (λ z. z * g.recv_bytes) q in omega arith) in
         let low_is : recv_of g c * g.recv_bytes ≤ x = (let m = ap (λ z. z * g.recv_bytes) q in omega arith) in
-        let there = get_or-set_same mid (base + recv_of g c) (written B (cell_at_place g c) piece) [] w.index in
-        let byte : get_or (written B (cell_at_place g c) piece) (x % g.recv_bytes) 0 ≡ get_or B (x % g.recv_bytes) 0 =
+        let there = get_or-set_same mid (base + recv_of g c) (written B (cell_offset g c) (cell_piece g low c bytes)) [] w.index in
+        let byte : get_or (written B (cell_offset g c) (cell_piece g low c bytes)) (x % g.recv_bytes) 0 ≡ get_or B (x % g.recv_bytes) 0 =
             elim out [
-              | inl below ↦ written-before B piece (cell_at_place g c) (x % g.recv_bytes) nf (omega arith)
-              | inr above ↦ written-behind B piece (cell_at_place g c) (x % g.recv_bytes) nf (omega arith)
+              | inl below ↦ written-before B (cell_piece g low c bytes) (cell_offset g c) (x % g.recv_bytes) nf (omega arith)
+              | inr above ↦ written-behind B (cell_piece g low c bytes) (cell_offset g c) (x % g.recv_bytes) nf (omega arith)
             ] in
-        ap (λ j. get_or (get_or (after_write g base c piece mid) (base + j) []) (x % g.recv_bytes) 0) q
+        ap (λ j. get_or (get_or (cell_stored g base low c bytes mid) (base + j) []) (x % g.recv_bytes) 0) q
         ∙ ap (λ buffer. get_or buffer (x % g.recv_bytes) 0) there ∙ byte
         ∙ ap (λ j. get_or (get_or mid (base + j) []) (x % g.recv_bytes) 0) (sym q)
       | inr other ↦
@@ -179,30 +161,57 @@ outside_cell g base low c bytes piece mid w x out =
         ap (λ buffer. get_or buffer (x % g.recv_bytes) 0) (get_or-set_other mid (base + recv_of g c) (base + x / g.recv_bytes) _ [] apart)
     ]
 
-pub stored_more : (g : Shape) (base low c : ℕ) (bytes piece : List ℕ) (old mid : List (List ℕ)) → CellWrite g base low c bytes piece mid
-    → Stores g base low (start g c) bytes old mid → Stores g base low (end g c) bytes old (after_write g base c piece mid)
-stored_more g base low c bytes piece old mid w s =
-    let n = numbers g base low c bytes piece mid w in
+pub stored_more : (g : Shape) (base low c : ℕ) (bytes : List ℕ) (old mid : List (List ℕ)) → CanStore g base low c bytes mid
+    → Stores g base low (start g c) bytes old mid → Stores g base low (end g c) bytes old (cell_stored g base low c bytes mid)
+stored_more g base low c bytes old mid w s =
+    let n = numbers g base low c bytes mid w in
     let nr = n.rises in
     let B = get_or mid (base + recv_of g c) [] in
     record {
       size = length-set mid (base + recv_of g c) _ ∙ s.size;
       sizes = λ j. elim (cases_eq j (base + recv_of g c)) [
-        | inl same ↦ ap (λ k. length (get_or (after_write g base c piece mid) k [])) same
-          ∙ ap length (get_or-set_same mid (base + recv_of g c) (written B (cell_at_place g c) piece) [] w.index)
-          ∙ length-written B piece (cell_at_place g c) n.fits ∙ ap (λ k. length (get_or mid k [])) (sym same) ∙ s.sizes j
+        | inl same ↦ ap (λ k. length (get_or (cell_stored g base low c bytes mid) k [])) same
+          ∙ ap length (get_or-set_same mid (base + recv_of g c) (written B (cell_offset g c) (cell_piece g low c bytes)) [] w.index)
+          ∙ length-written B (cell_piece g low c bytes) (cell_offset g c) n.fits ∙ ap (λ k. length (get_or mid k [])) (sym same) ∙ s.sizes j
         | inr other ↦ ap length (get_or-set_other mid (base + recv_of g c) j _ [] other) ∙ s.sizes j
       ];
       here = λ x from to. elim (cases_lt x (start g c)) [
-        | inl before ↦ outside_cell g base low c bytes piece mid w x (inl before) ∙ s.here x from before
-        | inr inside ↦ inside_cell g base low c bytes piece mid w x inside to
+        | inl before ↦ outside_cell g base low c bytes mid w x (inl before) ∙ s.here x from before
+        | inr inside ↦ inside_cell g base low c bytes mid w x inside to
       ];
       elsewhere = λ x inside out.
         let ll = w.low_le in
         let apart : (x < start g c) ⊎ (end g c ≤ x) = elim out [ inl below ↦ inl (omega arith) | inr above ↦ inr above ] in
         let before : (x < low) ⊎ (start g c ≤ x) = elim out [ inl below ↦ inl below | inr above ↦ inr (omega arith) ] in
-        outside_cell g base low c bytes piece mid w x apart ∙ s.elsewhere x inside before;
+        outside_cell g base low c bytes mid w x apart ∙ s.elsewhere x inside before;
       apart = λ j out.
         let q = recv-below g w.shape c w.cell in
         get_or-set_other mid (base + recv_of g c) j _ [] (λ e. elim out [ inl below ↦ absurd (omega arith) | inr above ↦ absurd (omega arith) ]) ∙ s.apart j out;
+    }
+
+-- each cell of the partition can be stored in its turn
+pub can_store : (g : Shape) (v : IsShape g) (p first next c base low : ℕ) (bytes : List ℕ) (old mid : List (List ℕ)) → p < g.send_parts
+    → AreCellsOf Send g p first next → first ≤ c → c < next → length bytes ≡ g.send_bytes → base + g.recv_parts ≤ length old
+    → HasRoom g base (p * g.send_bytes) ((p + 1) * g.send_bytes) old → Stores g base (p * g.send_bytes) (start g c) bytes old mid
+    → low ≡ start g first → CanStore g base low c bytes mid
+unfolding recv_of
+can_store g v p first next c base low bytes old mid inside is from to size enough room s low_is =
+    let places = part_places g v p first next inside is in
+    let within = is.inside in
+    let cell : c < cells g = omega arith in
+    let a = start-le g v first c from (omega arith) in
+    let b = start-le g v (c + 1) next (omega arith) within in
+    let rise = start-rises g v c cell in
+    let e = end-start g c in
+    let z : (p + 1) * g.send_bytes ≡ p * g.send_bytes + g.send_bytes = omega arith in
+    let p0 = places.0 in let p1 = places.1 in
+    let q = recv-below g v c cell in
+    let sz = s.size in
+    record {
+      shape = v;
+      cell = cell;
+      low_le = omega arith;
+      high_le = omega arith;
+      index = omega arith;
+      room = s.sizes (base + start g c / g.recv_bytes) ∙ room (start g c) (omega arith) (omega arith);
     }

@@ -3,10 +3,31 @@
 ghost use Rattle.std.specs.Prelude.{◌≡◌, ℕ, ◌+◌, ◌-◌, ◌*◌, ◌<◌, ◌≤◌, ◌==◌, ◌&&◌, nat_le, if◌then◌else◌, [], length, count_by, slice_index};
 ghost use Rattle.std.specs.List.{range_with_len};
 ghost use Rattle.part_geometry.specs.Pieces.{pieces};
-ghost use Rattle.plain_pair.specs.Stored.{Stores, HasRoom};
+ghost use Rattle.plain_pair.specs.Stored.{Stores, HasRoom, CanStore, cell_stored};
 
 use crate::buffer::{Buffer, write_at};
 use crate::tables::Tables;
+
+/// Stores the bytes of a cell in the buffer of its receive partition. The bytes given begin at place `low` of the
+/// message.
+fn store_cell(
+    tables: &Tables,
+    buffers: &mut Vec<Buffer>,
+    base: usize,
+    low: usize,
+    c: usize,
+    bytes: &[u8],
+)
+    requires { CanStore tables.now base low c bytes.now buffers.old.items }
+    ensures { buffers.new.items ≡ cell_stored tables.now base low c bytes.now buffers.old.items }
+{
+    let recv_bytes = tables.geometry().recv_bytes() as usize;
+    let cell = tables.cell(c);
+    let start = cell.start as usize;
+    let recv = cell.recv as usize;
+    let piece = &bytes[start - low..cell.end as usize - low];
+    write_at(buffers, base + recv, start - recv * recv_bytes, piece);
+}
 
 /// Stores the bytes of send partition `p` in the buffers of the receive partitions, of which the first is at
 /// `base`.
@@ -24,14 +45,10 @@ pub(crate) fn store(
     ensures { Stores tables.now base (p * tables.now.send_bytes) ((p + 1) * tables.now.send_bytes) bytes.now
         buffers.old.items buffers.new.items }
 {
-    let recv_bytes = tables.geometry().recv_bytes() as usize;
+    let _geometry = tables.geometry();
     let (first, end) = tables.send_cells(p);
     let low = tables.cell(first).start as usize;
     for c in first..end {
-        let cell = tables.cell(c);
-        let start = cell.start as usize;
-        let recv = cell.recv as usize;
-        let piece = &bytes[start - low..cell.end as usize - low];
-        write_at(buffers, base + recv, start - recv * recv_bytes, piece);
+        store_cell(tables, buffers, base, low, c, bytes);
     }
 }
