@@ -8,3 +8,4 @@ pub mod Outs
 pub mod Closing
 pub mod Writing
 pub mod Storing
+pub mod Lessening

@@ -9,3 +9,4 @@ pub mod Sound
 pub mod Pair
 pub mod Closing
 pub mod Stored
+pub mod Lessens
