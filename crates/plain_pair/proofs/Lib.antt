@@ -9,3 +9,4 @@ pub mod Closing
 pub mod Writing
 pub mod Storing
 pub mod Lessening
+pub mod Touching
