@@ -10,3 +10,5 @@ pub mod Writing
 pub mod Storing
 pub mod Lessening
 pub mod Touching
+pub mod Places
+pub mod Agree

@@ -17,7 +17,7 @@ use Rattle.plain_pair.proofs.Counts.{count-same, count-none, list_all-range, lis
 use Rattle.plain_pair.proofs.Outs.{whole-missing}
 
 -- a row takes each number between two of its numbers
-row-hits : (f : ℕ → ℕ) (n count : ℕ) → IsRow f n count → (c k j : ℕ) → c + k < n → f c ≤ j → j ≤ f (c + k) → (d : ℕ) × (c ≤ d) × (d ≤ c + k) × (f d ≡ j)
+pub row-hits : (f : ℕ → ℕ) (n count : ℕ) → IsRow f n count → (c k j : ℕ) → c + k < n → f c ≤ j → j ≤ f (c + k) → (d : ℕ) × (c ≤ d) × (d ≤ c + k) × (f d ≡ j)
 row-hits f n count row c zero j inside low high =
     let e : f (c + zero) ≡ f c = ap f (add-zero c) in (c, omega arith, omega arith, omega arith)
 row-hits f n count row c (suc k) j inside low high =
