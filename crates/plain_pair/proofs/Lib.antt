@@ -12,3 +12,4 @@ pub mod Lessening
 pub mod Touching
 pub mod Places
 pub mod Agree
+pub mod Marks
