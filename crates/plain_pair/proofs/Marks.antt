@@ -4,10 +4,10 @@ use Rattle.std.specs.FinMap as rounds
 use Rattle.std.specs.Ordering.{nat_cmp, eq_by_cmp}
 use Rattle.std.specs.Cmp.{nat_cmp_total}
 use Rattle.std.specs.List.{range_with_len, list_all}
-use Rattle.std.proofs.lemmas.Bool.{cases_lt, cases_eq, cases_Bool, eq-eqb, ne_eqb, lt-ltb, le-ltb, or_left, or_right, or_cases, and_parts, false≢true, eqb-true, and_from, and_left, and_right}
+use Rattle.std.proofs.lemmas.Bool.{cases_lt, cases_eq, cases_Bool, eq-eqb, ne_eqb, lt-ltb, le-ltb, or_left, or_right, or_cases, and_parts, false≢true, eqb-true, cond-true, cond-false, and_from, and_left, and_right}
 use Rattle.std.proofs.lemmas.List.{length-set, get_or-set_same, get_or-set_other}
 use Rattle.std.proofs.lemmas.List.Sums.{sum_by-set}
-use Rattle.std.proofs.Math.Nat.{div-eq_of_lt-le, div-lt_iff_lt-mul}
+use Rattle.std.proofs.Math.Nat.{div-eq_of_lt-le, div-lt_iff_lt-mul, le-div_iff_mul-le}
 use Rattle.std.proofs.lemmas.Nat.{mul-le, mod_below}
 use Rattle.part_geometry.specs.Shape.{Shape, IsShape, send_total}
 use Rattle.part_geometry.specs.Pieces.{pieces, first_part, need_count, needed}
@@ -239,3 +239,147 @@ some_missing k missing p first end s m t i low high =
     let less = unmarked-touched k.shape k.marked p i there m.free r.0 r.1 in
     let within = t.inside in
     let was = s.counts i (omega arith) in omega arith
+
+-- how many pieces the mark sends out
+abbrev pub sent_by : List ℕ → ℕ → ℕ → ℕ
+sent_by missing first end = count_by (λ i. get_or missing i 0 == 1) (range_with_len first (end - first))
+
+out_kept : (k : Kept) (marks : List Bool) (buffers : List (List ℕ)) → 0 < k.sent
+    → kept_out (record k { marked = marks; buffers = buffers }) ≡ (k.sent - 1) * pieces k.shape + count_by (is_whole k.shape marks) (range_with_len 0 (pieces k.shape))
+unfolding kept_out
+out_kept k marks buffers some = cond-false (k.sent == 0) _ _ (ne_eqb k.sent 0 (λ e. omega arith))
+
+pub kept_out-marked : (k : Kept) (missing : List ℕ) (p : ℕ) (buffers : List (List ℕ)) (first end : ℕ) → IsSound k missing → CanMark k p → ArePiecesOf k.shape p first end
+    → kept_out (marked_kept k p buffers) ≡ kept_out k + sent_by missing first end
+kept_out-marked k missing p buffers first end s m t =
+    let some = s.rounds.begun m.active in
+    let new = out_kept k (set k.marked p true) buffers some in
+    let old = out_kept k k.marked k.buffers some in
+    let count = whole_after k missing p first end s m t in
+    omega arith
+
+-- the round that the record has, with the mark, agrees with what is kept
+out_marked_now : (k : Kept) (missing : List ℕ) (r : Record) (p : ℕ) (bytes : List ℕ) → IsSound k missing → CanMark k p → StandsFor k r → (i : ℕ) → i < pieces k.shape
+    → is_out k.shape (rounds.insert (round_of r k.sent) p bytes) i ≡ is_whole k.shape (set k.marked p true) i
+unfolding is_whole is_out needed
+out_marked_now k missing r p bytes s m st i inside =
+    let there : p < length k.marked = (let e = s.sizes.marked_size in let j = m.inside in omega arith) in
+    list_all-same (is_marked (rounds.insert (round_of r k.sent) p bytes)) (has (set k.marked p true)) (first_part k.shape i) (need_count k.shape i)
+    (λ x low high. is_marked-insert (round_of r k.sent) p x bytes
+      ∙ ap (cond (x == p) true) (sym (marks_now k missing r s st (s.rounds.begun m.active) x (needed_below k.shape s.shape i x inside high low)))
+      ∙ sym (has-set k.marked p x there))
+
+pub pieces_out-marked : (k : Kept) (missing : List ℕ) (r : Record) (p : ℕ) (bytes : List ℕ) (first end : ℕ) → IsSound k missing → CanMark k p → StandsFor k r
+    → ArePiecesOf k.shape p first end → pieces_out k.shape (marked r p bytes) ≡ pieces_out k.shape r + sent_by missing first end
+unfolding pieces_out round_out
+pieces_out-marked k missing r p bytes first end s m st t =
+    let g = k.shape in
+    let some = s.rounds.begun m.active in
+    let sent_is = st.sent in
+    let last : round_of r (send_round r) ≡ round_of r k.sent = ap (round_of r) (sym sent_is) in
+    let old = count-same (is_out g (round_of r k.sent)) (is_whole g k.marked) 0 (pieces g) (λ i low high. sym (out_now k missing r s st some i (omega arith))) in
+    let new = count-same (is_out g (rounds.insert (round_of r k.sent) p bytes)) (is_whole g (set k.marked p true)) 0 (pieces g) (λ i low high. out_marked_now k missing r p bytes s m st i (omega arith)) in
+    let sum : pieces_out g (marked r p bytes) + round_out g (round_of r (send_round r)) ≡ pieces_out g r + round_out g (rounds.insert (round_of r (send_round r)) p bytes) =
+        sum_by-set (round_out g) r.rounds (send_round r - 1) (rounds.insert (round_of r (send_round r)) p bytes) no_marks (omega arith) in
+    let before : round_out g (round_of r (send_round r)) ≡ count_by (is_whole g k.marked) (range_with_len 0 (pieces g)) = ap (round_out g) last ∙ old in
+    let after : round_out g (rounds.insert (round_of r (send_round r)) p bytes) ≡ count_by (is_whole g (set k.marked p true)) (range_with_len 0 (pieces g)) =
+        ap (λ z. round_out g (rounds.insert z p bytes)) last ∙ new in
+    let count = whole_after k missing p first end s m t in
+    omega arith
+
+-- the byte that the record has after the mark
+byte_at-marked : (g : Shape) (round : Round) (p x : ℕ) (bytes : List ℕ)
+    → byte_at g (rounds.insert round p bytes) x ≡ cond (x / g.send_bytes == p) (get_or bytes (x % g.send_bytes) 0) (byte_at g round x)
+unfolding byte_at
+byte_at-marked g round p x bytes =
+    ap (λ o. get_or (unwrap_or o []) (x % g.send_bytes) 0) (get_marked round p (x / g.send_bytes) bytes)
+    ∙ chosen (x / g.send_bytes == p) bytes (rounds.get round (x / g.send_bytes)) (x % g.send_bytes)
+  where
+  chosen : (b : Bool) (bytes : List ℕ) (o : Option (List ℕ)) (i : ℕ) → get_or (unwrap_or (cond b (Some bytes) o) []) i 0 ≡ cond b (get_or bytes i 0) (get_or (unwrap_or o []) i 0)
+  chosen true bytes o i = refl
+  chosen false bytes o i = refl
+
+-- the byte that is kept after the mark: the mark's, at its places of the sender's round, and else as before
+kept_byte-marked : (k : Kept) (missing missing' : List ℕ) (p : ℕ) (bytes : List ℕ) (buffers : List (List ℕ)) (first end : ℕ) → IsSound k missing → CanMark k p
+    → IsMarked k p bytes missing missing' buffers first end → (x : ℕ) → x < send_total k.shape
+    → kept_byte (marked_kept k p buffers) k.sent x ≡ cond (x / k.shape.send_bytes == p) (get_or bytes (x % k.shape.send_bytes) 0) (kept_byte k k.sent x)
+kept_byte-marked k missing missing' p bytes buffers first end s m w x inside =
+    let g = k.shape in
+    let pos : 0 < g.send_bytes = omega (arith, s.shape.send_bytes.0) in
+    elim (cases_eq (x / g.send_bytes) p) [
+      | inl here ↦
+        let at : x / g.send_bytes * g.send_bytes ≡ p * g.send_bytes = ap (λ n. n * g.send_bytes) here in
+        let next : (p + 1) * g.send_bytes ≡ p * g.send_bytes + g.send_bytes = omega arith in
+        let offset : x - p * g.send_bytes ≡ x % g.send_bytes = omega arith in
+        w.stores.here x (omega arith) (omega arith) ∙ ap (λ i. get_or bytes i 0) offset ∙ sym (cond-true (x / g.send_bytes == p) _ _ (eq-eqb _ p here))
+      | inr other ↦
+        let out : (x < p * g.send_bytes) ⊎ ((p + 1) * g.send_bytes ≤ x) = elim (cases_lt (x / g.send_bytes) p) [
+          | inl less ↦ inl ((div-lt_iff_lt-mul {k = g.send_bytes} {x = x} {y = p} pos).0 less)
+          | inr more ↦ inr ((le-div_iff_mul-le {k = g.send_bytes} {x = p + 1} {y = x} pos).0 (omega arith))
+        ] in
+        w.stores.elsewhere x inside out ∙ sym (cond-false (x / g.send_bytes == p) _ _ (ne_eqb _ p other))
+    ]
+
+kept_byte-other : (k : Kept) (missing missing' : List ℕ) (p : ℕ) (bytes : List ℕ) (buffers : List (List ℕ)) (first end : ℕ) → IsSound k missing → CanMark k p
+    → IsMarked k p bytes missing missing' buffers first end → (round x : ℕ) → k.released < round → round < k.sent → x < send_total k.shape
+    → kept_byte (marked_kept k p buffers) round x ≡ kept_byte k round x
+kept_byte-other k missing missing' p bytes buffers first end s m w round x later before inside =
+    let g = k.shape in
+    let pos : 0 < g.depth = omega (arith, s.shape.depth.0) in
+    let ahead = s.rounds.ahead in
+    let part : x / g.recv_bytes < g.recv_parts = (div-lt_iff_lt-mul {k = g.recv_bytes} {x = x} {y = g.recv_parts} (let h = s.shape.recv_bytes.0 in omega arith)).1 (let e = s.shape.same in omega arith) in
+    let apart : k.sent % g.depth ≢ round % g.depth = λ e. (let z = one_turn k.released k.sent round g.depth pos (omega arith) ahead later (omega arith) e in omega arith) in
+    ap (λ buffer. get_or buffer (x % g.recv_bytes) 0)
+    (w.stores.apart (round % g.depth * g.recv_parts + x / g.recv_bytes) (places_apart (k.sent % g.depth) (round % g.depth) (x / g.recv_bytes) g.recv_parts apart part))
+
+pub stands_mark : (k : Kept) (missing missing' : List ℕ) (r : Record) (p : ℕ) (bytes : List ℕ) (buffers : List (List ℕ)) (first end : ℕ) → IsSound k missing → CanMark k p
+    → IsMarked k p bytes missing missing' buffers first end → StandsFor k r → StandsFor (marked_kept k p buffers) (marked r p bytes)
+stands_mark k missing missing' r p bytes buffers first end s m w st =
+    let g = k.shape in
+    let there : p < length k.marked = (let e = s.sizes.marked_size in let j = m.inside in omega arith) in
+    let sent_is = st.sent in
+    let released_is = st.released in
+    let size = send_round-marked r p bytes in
+    record {
+      sent = st.sent ∙ sym size;
+      received = st.received;
+      released = st.released;
+      sending = st.sending;
+      receiving = st.receiving;
+      taken = st.taken;
+      back = st.back;
+      out = kept_out-marked k missing p buffers first end s m w.touched ∙ ap (λ n. n + sent_by missing first end) st.out ∙ sym (pieces_out-marked k missing r p bytes first end s m st w.touched);
+      marks = λ round x later upto inside.
+        elim (cases_lt round k.sent) [
+          | inl before ↦
+            let was = st.marks round x later (omega arith) inside in
+            kept_mark-before (marked_kept k p buffers) round x before ∙ sym (kept_mark-before k round x before) ∙ was
+            ∙ ap (λ z. is_marked z x) (sym (round_of-marked_before r p bytes round (omega arith) (omega arith)))
+          | inr now ↦
+            let here : round ≡ k.sent = omega arith in
+            let last = round_of-marked_last r p bytes round (omega arith) (omega arith) in
+            ap (λ n. kept_mark (marked_kept k p buffers) n x) here ∙ kept_mark-here (marked_kept k p buffers) x ∙ has-set k.marked p x there
+            ∙ ap (cond (x == p) true) (marks_now k missing r s st (omega arith) x inside ∙ ap (λ n. is_marked (round_of r n) x) (sym here))
+            ∙ sym (is_marked-insert (round_of r round) p x bytes) ∙ ap (λ z. is_marked z x) (sym last)
+        ];
+      bytes = λ round x later upto inside is free.
+        elim (cases_lt round k.sent) [
+          | inl before ↦
+            let e = round_of-marked_before r p bytes round (omega arith) (omega arith) in
+            kept_byte-other k missing missing' p bytes buffers first end s m w round x (omega arith) before inside
+            ∙ st.bytes round x later (omega arith) inside (ap (λ z. is_marked z (x / g.send_bytes)) (sym e) ∙ is) free ∙ ap (λ z. byte_at g z x) (sym e)
+          | inr now ↦
+            let here : round ≡ k.sent = omega arith in
+            let last = round_of-marked_last r p bytes round (omega arith) (omega arith) in
+            ap (λ n. kept_byte (marked_kept k p buffers) n x) here ∙ kept_byte-marked k missing missing' p bytes buffers first end s m w x inside
+            ∙ both (x / g.send_bytes == p) _ _ _ (λ other.
+              let old : is_marked (round_of r round) (x / g.send_bytes) ≡ true =
+                  sym (ap (λ b. cond b true (is_marked (round_of r round) (x / g.send_bytes))) other) ∙ sym (is_marked-insert (round_of r round) p (x / g.send_bytes) bytes) ∙ ap (λ z. is_marked z (x / g.send_bytes)) (sym last) ∙ is in
+              ap (λ n. kept_byte k n x) (sym here) ∙ st.bytes round x later (omega arith) inside old free)
+            ∙ sym (byte_at-marked g (round_of r round) p x bytes) ∙ ap (λ z. byte_at g z x) (sym last)
+        ];
+    }
+  where
+  both : (b : Bool) (x y z : ℕ) → (b ≡ false → y ≡ z) → cond b x y ≡ cond b x z
+  both true x y z e = refl
+  both false x y z e = e refl
