@@ -13,3 +13,4 @@ pub mod Touching
 pub mod Places
 pub mod Agree
 pub mod Marks
+pub mod Refusals

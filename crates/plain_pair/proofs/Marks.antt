@@ -15,14 +15,16 @@ use Rattle.plain_pair.specs.Record.{Record, Round, no_marks, send_round, round_o
 use Rattle.plain_pair.specs.Moves.{marked}
 use Rattle.plain_pair.specs.Kept.{Kept, has, is_whole, kept_mark, kept_byte, was_taken, kept_out, buffer_place}
 use Rattle.plain_pair.specs.Sound.{IsSound, HasRounds, unmarked, is_away}
-use Rattle.plain_pair.specs.StandsFor.{StandsFor}
+use Rattle.plain_pair.specs.Marking.{CanMark, Marks, refusal}
+use Rattle.plain_pair.specs.StandsFor.{StandsFor, Follows}
+use Rattle.plain_pair.specs.Tables.{ArePiecesOf}
 use Rattle.plain_pair.specs.Stored.{Stores, HasRoom, byte_in}
 use Rattle.plain_pair.specs.Lessens.{Lessens}
 use Rattle.plain_pair.proofs.Counts.{count-same, count-none}
 use Rattle.plain_pair.proofs.Lessening.{count-split}
 use Rattle.plain_pair.proofs.Outs.{whole-missing}
 use Rattle.plain_pair.proofs.Rounds.{needed_below}
-use Rattle.plain_pair.proofs.Touching.{ArePiecesOf, has-set, has-set_other, has-set_same, unmarked-touched, unmarked-apart}
+use Rattle.plain_pair.proofs.Touching.{has-set, has-set_other, has-set_same, unmarked-touched, unmarked-apart}
 use Rattle.plain_pair.proofs.Agree.{list_all-same, marks_now, out_now}
 use Rattle.plain_pair.proofs.Places.{one_turn, places_apart}
 use Rattle.plain_pair.proofs.Starts.{kept_mark-before, place_below}
@@ -34,12 +36,6 @@ base_of k = k.sent % k.shape.depth * k.shape.recv_parts
 -- what is kept after a mark
 abbrev pub marked_kept : Kept → ℕ → List (List ℕ) → Kept
 marked_kept k p buffers = record k { marked = set k.marked p true; buffers = buffers }
-
--- a mark that may be made
-pub record CanMark (k : Kept) (p : ℕ) : Type 0 where
-  pub active : k.sending ≡ true
-  pub inside : p < k.shape.send_parts
-  pub free : has k.marked p ≡ false
 
 -- what the work of a mark leaves
 pub record IsMarked (k : Kept) (p : ℕ) (bytes missing missing' : List ℕ) (buffers : List (List ℕ)) (first end : ℕ) : Type 0 where
@@ -383,3 +379,10 @@ stands_mark k missing missing' r p bytes buffers first end s m w st =
   both : (b : Bool) (x y z : ℕ) → (b ≡ false → y ≡ z) → cond b x y ≡ cond b x z
   both true x y z e = refl
   both false x y z e = e refl
+
+-- the mark as it is answered
+pub marks : (k : Kept) (missing missing' : List ℕ) (p : ℕ) (bytes : List ℕ) (buffers : List (List ℕ)) (first end sent : ℕ) → IsSound k missing → CanMark k p
+    → IsMarked k p bytes missing missing' buffers first end → sent ≡ sent_by missing first end → Marks k (marked_kept k p buffers) p bytes sent
+marks k missing missing' p bytes buffers first end sent s m w is r st =
+    let count = pieces_out-marked k missing r p bytes first end s m st w.touched in
+    (omega arith, stands_mark k missing missing' r p bytes buffers first end s m w st)

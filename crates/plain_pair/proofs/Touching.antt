@@ -10,7 +10,7 @@ use Rattle.part_geometry.specs.Pieces.{pieces, piece_of, first_cell, last_cell, 
 use Rattle.part_geometry.proofs.PieceFacts.{piece-ordered, piece_of-inside, piece_of-holds, Touches-range, need_count-pos}
 use Rattle.part_geometry.proofs.Rows.{IsRow, row-le, row-below, piece-row}
 use Rattle.plain_pair.specs.declared.tables.Row.TheVariants.{Send}
-use Rattle.plain_pair.specs.Tables.{AreCellsOf}
+use Rattle.plain_pair.specs.Tables.{AreCellsOf, ArePiecesOf}
 use Rattle.plain_pair.specs.Kept.{has, is_whole}
 use Rattle.plain_pair.specs.Sound.{unmarked}
 use Rattle.plain_pair.proofs.Counts.{count-same, count-none, list_all-range, list_all-not}
@@ -31,13 +31,7 @@ row-hits f n count row c (suc k) j inside low high =
         (h.0, h.1, (let u = h.2 in omega arith), h.3)
     ]
 
--- the pieces of the cells of a send partition are those that touch it
-pub record ArePiecesOf (g : Shape) (p first end : ℕ) : Type 0 where
-  pub some : first < end
-  pub inside : end ≤ pieces g
-  pub touch : (i : ℕ) → first ≤ i → i < end → (first_part g i ≤ p) × (p < first_part g i + need_count g i)
-  pub apart : (i : ℕ) → i < pieces g → (i < first) ⊎ (end ≤ i) → (p < first_part g i) ⊎ (first_part g i + need_count g i ≤ p)
-
+-- the pieces of a send partition, by its cells
 pub pieces_of_part : (g : Shape) (v : IsShape g) (p first next : ℕ) → AreCellsOf Send g p first next → ArePiecesOf g p (piece_of g first) (piece_of g (next - 1) + 1)
 pieces_of_part g v p first next is =
     let row = piece-row g v in

@@ -10,3 +10,4 @@ pub mod Pair
 pub mod Closing
 pub mod Stored
 pub mod Lessens
+pub mod Marking
