@@ -117,6 +117,7 @@ sound_mark k missing missing' p bytes buffers first end s m w =
       whole = λ idle. absurd (false≢true (sym idle ∙ m.active));
       done = λ e. absurd (omega arith);
       arrived = λ busy q x inside taken place here. mark_stays k p k.received (x / g.send_bytes) buffers there (s.arrived busy q x inside taken place here);
+      returned = s.returned;
     }
 
 -- the buffers that a mark writes to have room

@@ -74,6 +74,7 @@ sound_start_send k missing needs s idle more is =
       arrived = λ busy q x inside taken place there.
           let old = s.arrived busy q x inside taken place there in
           kept_mark-before (sending_kept k) k.received _ (let h = kept_mark-within k k.received _ old in omega arith);
+      returned = s.returned;
     }
 
 -- a round after the released one is at least 1
@@ -226,6 +227,7 @@ sound_first g v needs is = record {
   whole = λ e some. absurd (omega arith);
   done = λ e some. absurd (omega arith);
   arrived = λ e. absurd (false≢true e);
+  returned = λ q inside e. absurd (false≢true (sym (has-none g.recv_parts q) ∙ e));
 }
 
 pub stands_first : (g : Shape) (buffers : List (List ℕ)) → StandsFor (first_kept g buffers) first_record

@@ -2,6 +2,7 @@
 #![tactic(auto)]
 
 mod answers;
+mod arrival;
 mod buffer;
 mod flags;
 mod marking;
@@ -9,4 +10,5 @@ mod pair;
 mod tables;
 
 pub use answers::{PlainLook, PlainRefusal, PlainTake};
+pub use arrival::PlainArrival;
 pub use pair::{LAST_ROUND, PlainClosed, PlainPair};

@@ -1,6 +1,6 @@
 //! The work of a mark: its bytes are stored, and the pieces that it completes are counted.
 
-ghost use Rattle.std.specs.Prelude.{◌≡◌, ℕ, ◌+◌, ◌-◌, ◌*◌, ◌<◌, ◌≤◌, ◌==◌, ◌&&◌, nat_le, if◌then◌else◌, [], length, count_by, slice_index, slice_set};
+ghost use Rattle.std.specs.Prelude.{◌≡◌, ℕ, ◌+◌, ◌-◌, ◌*◌, ◌<◌, ◌≤◌, ◌==◌, ◌&&◌, nat_le, if◌then◌else◌, [], length, count_by, find, not, slice_index, slice_set};
 ghost use Rattle.std.specs.List.{range_with_len};
 ghost use Rattle.part_geometry.specs.Pieces.{pieces};
 ghost use Rattle.plain_pair.specs.Lessens.{Lessens};
@@ -82,4 +82,18 @@ pub(crate) fn count_down(missing: &mut Vec<u32>, first: usize, end: usize) -> u3
         }
     }
     whole
+}
+
+/// The least piece from `first` up to and without `end` of which something is missing.
+pub(crate) fn first_missing(missing: &[u32], first: usize, end: usize) -> Option<u32>
+    requires inside { end ≤ length missing.now }
+    requires few { end ≤ 16777216 }
+    ensures { result ≡ find (λ i. not (slice_index missing.now i == 0)) (range_with_len first (end - first)) }
+{
+    for i in first..end {
+        if missing[i] != 0 {
+            return Some(i as u32);
+        }
+    }
+    None
 }
