@@ -1,15 +1,15 @@
 -- The pieces over a receive partition, and the least of them that isn't out.
-use Rattle.std.proofs.Common.{◌≡◌, ◌⊎◌, ℕ, zero, suc, zero-add, add-zero, ◌+◌, ◌-◌, ◌*◌, ◌/◌, ◌%◌, ◌<◌, ◌≤◌, Bool, true, false, cond, ◌&&◌, not, nat_le, Some, None, Option, List, [], ◌∷◌, find, refl, ap, sym, ◌∙◌, arith, inl, inr}
+use Rattle.std.proofs.Common.{◌≡◌, ◌⊎◌, ℕ, zero, suc, zero-add, add-zero, ◌+◌, ◌-◌, ◌<◌, ◌≤◌, Bool, true, false, cond, nat_le, Some, None, find, refl, ap, sym, ◌∙◌, arith, inl, inr}
 use Rattle.std.specs.List.{range_with_len}
 use Rattle.std.proofs.Math.Nat.{suc-add}
-use Rattle.std.proofs.lemmas.Bool.{cases_lt, cases_Bool, le-leb, leb-true, and_from, and_parts, and_left, and_right, false_from_ne_true}
+use Rattle.std.proofs.lemmas.Bool.{cases_lt, cases_Bool, le-leb, leb-true, and_from, and_parts, false_from_ne_true}
 use Rattle.part_geometry.specs.Shape.{Shape, IsShape, send_total}
 use Rattle.part_geometry.specs.Cells.{cells, start, recv_of}
 use Rattle.part_geometry.specs.Pieces.{pieces, piece_of, first_cell, last_cell}
 use Rattle.part_geometry.proofs.Bounds.{start-zero, start-last}
 use Rattle.part_geometry.proofs.Parts.{recv-mono}
 use Rattle.part_geometry.proofs.PieceFacts.{piece-ordered, piece_of-inside, piece_of-holds}
-use Rattle.part_geometry.proofs.Rows.{IsRow, row-le, row-below, piece-row, recv-row}
+use Rattle.part_geometry.proofs.Rows.{row-le, row-below, piece-row, recv-row}
 use Rattle.plain_pair.specs.declared.tables.Row.TheVariants.{Recv}
 use Rattle.plain_pair.specs.Tables.{AreCellsOf, ArePiecesOver}
 use Rattle.plain_pair.specs.Record.{is_over}
@@ -43,25 +43,25 @@ pieces_over_part g v q first next is =
       some = omega arith;
       inside = omega arith;
       over = λ i low high.
-        let e : first + (next - 1 - first) ≡ next - 1 = omega arith in
-        let z : piece_of g (first + (next - 1 - first)) ≡ piece_of g (next - 1) = ap (piece_of g) e in
-        let d = row-hits (piece_of g) (cells g) (pieces g) row first (next - 1 - first) i (omega arith) low (omega arith) in
-        let du = d.2 in
-        let h = piece_of-holds g d.0 (omega arith) in
-        let n = is.numbered d.0 d.1 (omega arith) in
-        let hl = h.low in let hh = h.high in
-        let fl : first_cell g (piece_of g d.0) ≡ first_cell g i = ap (first_cell g) d.3 in
-        let ll : last_cell g (piece_of g d.0) ≡ last_cell g i = ap (last_cell g) d.3 in
-        cell-over g v q i d.0 (omega arith) (omega arith) (omega arith) n;
+          let e : first + (next - 1 - first) ≡ next - 1 = omega arith in
+          let z : piece_of g (first + (next - 1 - first)) ≡ piece_of g (next - 1) = ap (piece_of g) e in
+          let d = row-hits (piece_of g) (cells g) (pieces g) row first (next - 1 - first) i (omega arith) low (omega arith) in
+          let du = d.2 in
+          let h = piece_of-holds g d.0 (omega arith) in
+          let n = is.numbered d.0 d.1 (omega arith) in
+          let hl = h.low in let hh = h.high in
+          let fl : first_cell g (piece_of g d.0) ≡ first_cell g i = ap (first_cell g) d.3 in
+          let ll : last_cell g (piece_of g d.0) ≡ last_cell g i = ap (last_cell g) d.3 in
+          cell-over g v q i d.0 (omega arith) (omega arith) (omega arith) n;
       apart = λ i inside out. false_from_ne_true (is_over g q i) (λ over.
-        let d = over-cell g v q i inside over in
-        let o = piece-ordered g i inside in
-        let here = is.all d.0 (let a = d.2 in let b = o.1 in omega arith) d.3 in
-        let piece = piece_of-inside g i d.0 inside d.1 d.2 in
-        let hl = here.0 in let hh = here.1 in
-        let low' = row-le (piece_of g) (cells g) (pieces g) row first d.0 hl (omega arith) in
-        let high' = row-le (piece_of g) (cells g) (pieces g) row d.0 (next - 1) (omega arith) (omega arith) in
-        elim out [ inl b ↦ absurd (omega arith) | inr a ↦ absurd (omega arith) ]);
+          let d = over-cell g v q i inside over in
+          let o = piece-ordered g i inside in
+          let here = is.all d.0 (let a = d.2 in let b = o.1 in omega arith) d.3 in
+          let piece = piece_of-inside g i d.0 inside d.1 d.2 in
+          let hl = here.0 in let hh = here.1 in
+          let low' = row-le (piece_of g) (cells g) (pieces g) row first d.0 hl (omega arith) in
+          let high' = row-le (piece_of g) (cells g) (pieces g) row d.0 (next - 1) (omega arith) (omega arith) in
+          elim out [ inl b ↦ absurd (omega arith) | inr a ↦ absurd (omega arith) ]);
     }
 
 -- what is found in a range
@@ -91,11 +91,11 @@ find-nothing p (suc n) a none x low high =
     elim (cases_Bool (p a)) [
       | inl here ↦ let e : Some a ≡ None = sym (rw here refl) ∙ none in cc
       | inr not_here ↦
-        let rest : find p (range_with_len (a + 1) n) ≡ None = sym (rw not_here refl) ∙ none in
-        elim (cases_lt a x) [
-          | inl later ↦ find-nothing p n (a + 1) rest x (omega arith) (omega arith)
-          | inr now ↦ ap p (let e : x ≡ a = omega arith in e) ∙ not_here
-        ]
+          let rest : find p (range_with_len (a + 1) n) ≡ None = sym (rw not_here refl) ∙ none in
+          elim (cases_lt a x) [
+            | inl later ↦ find-nothing p n (a + 1) rest x (omega arith) (omega arith)
+            | inr now ↦ ap p (let e : x ≡ a = omega arith in e) ∙ not_here
+          ]
     ]
 
 -- each place of the message is in a cell

@@ -6,7 +6,7 @@ use Rattle.part_geometry.specs.Pieces.{pieces}
 use Rattle.plain_pair.specs.declared.answers.PlainTake.{PlainTake}
 use Rattle.plain_pair.specs.declared.answers.PlainTake.TheVariants.{Idle, BadPartition, AlreadyTaken, NotYet}
 use Rattle.plain_pair.specs.Taken.{Taken}
-use Rattle.plain_pair.specs.Record.{Record, is_over, round_of, missing_piece}
+use Rattle.plain_pair.specs.Record.{Record, is_over}
 use Rattle.plain_pair.specs.Moves.{taken_of, took}
 use Rattle.plain_pair.specs.Kept.{Kept, has, is_whole}
 use Rattle.plain_pair.specs.StandsFor.{StandsFor}

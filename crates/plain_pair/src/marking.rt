@@ -32,13 +32,7 @@ fn store_cell(
 
 /// Stores the bytes of send partition `p` in the buffers of the receive partitions, of which the first is at
 /// `base`.
-pub(crate) fn store(
-    tables: &Tables,
-    buffers: &mut Vec<Buffer>,
-    base: usize,
-    p: usize,
-    bytes: &[u8],
-)
+pub(crate) fn store(tables: &Tables, buffers: &mut Vec<Buffer>, base: usize, p: usize, bytes: &[u8])
     requires part { p < tables.now.send_parts }
     requires length { length bytes.now ≡ tables.now.send_bytes }
     requires buffers { base + tables.now.recv_parts ≤ length buffers.old.items }

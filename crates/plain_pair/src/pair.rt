@@ -3,10 +3,10 @@
 ghost use Rattle.std.specs.Prelude.{◌≡◌, ◌<◌, ◌≤◌, None, length, IfOk};
 ghost use Rattle.plain_pair.specs.Moves.{start_answer};
 
-use crate::buffer::{Buffer, take_at, zero_buffers};
-use crate::flags::{add, all_missing, clear, none_of, pieces_out, reset};
 use crate::answers::{PlainLook, PlainRefusal, PlainTake};
 use crate::arrival::PlainArrival;
+use crate::buffer::{Buffer, take_at, zero_buffers};
+use crate::flags::{add, all_missing, clear, none_of, pieces_out, reset};
 use crate::marking::{count_down, first_missing, store};
 use crate::tables::Tables;
 use part_geometry::{Geometry, Marked, StartFault};

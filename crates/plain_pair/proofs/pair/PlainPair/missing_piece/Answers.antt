@@ -1,8 +1,6 @@
-use Rattle.std.proofs.Common.{◌≡◌, ◌<◌, ◌≤◌, refl, ap, sym, subst, ◌∙◌, arith}
+use Rattle.std.proofs.Common.{sym, ◌∙◌, arith}
 use Rattle.part_geometry.proofs.Bounds.{cells-le}
 use Rattle.part_geometry.proofs.PieceFacts.{pieces-le}
-use Rattle.plain_pair.specs.Tables.{ArePiecesOver}
-use Rattle.plain_pair.specs.Kept.{Kept}
 use Rattle.plain_pair.specs.Pair.{kept_of}
 use Rattle.plain_pair.proofs.Looks.{missing_before, missing_after, missing_same}
 use Rattle.plain_pair.proofs.pair.PlainPair.missing_piece.Goals as goal

@@ -1,4 +1,4 @@
-use Rattle.std.proofs.Common.{◌≡◌, refl, ap, ◌∙◌}
+use Rattle.std.proofs.Common.{ap, ◌∙◌}
 use Rattle.std.specs.Option.{option_map_or}
 use Rattle.plain_pair.specs.declared.answers.PlainLook.TheVariants as look
 use Rattle.plain_pair.specs.Pair.{kept_of}

@@ -1,6 +1,5 @@
-use Rattle.std.proofs.Common.{◌+◌, ap, sym, ◌∙◌, subst}
+use Rattle.std.proofs.Common.{ap, subst}
 use Rattle.part_geometry.specs.Shape.{IsShape}
-use Rattle.plain_pair.specs.Tables.{ArePiecesOver}
 use Rattle.plain_pair.proofs.Overs.{pieces_over_part}
 use Rattle.plain_pair.proofs.tables.Tables.recv_pieces.Goals as goal
 
