@@ -8,6 +8,8 @@ mod flags;
 mod marking;
 mod pair;
 mod tables;
+#[cfg(test)]
+mod tests;
 
 pub use answers::{PlainLook, PlainRefusal, PlainTake};
 pub use arrival::PlainArrival;
