@@ -1,3 +1,5 @@
 pub mod Words
 pub mod Lines
 pub mod Built
+pub mod Texts
+pub mod Run
