@@ -2,4 +2,5 @@ pub mod Words
 pub mod Lines
 pub mod Built
 pub mod Texts
+pub mod Setting
 pub mod Run
