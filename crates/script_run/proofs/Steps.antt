@@ -1,5 +1,5 @@
 -- Running step after step: what was written, and what the steps that are left will write.
-use Rattle.std.proofs.Common.{◌≡◌, ℕ, List, [], ◌∷◌, ◌++◌, refl, sym, ap, ◌∙◌, append_assoc}
+use Rattle.std.proofs.Common.{◌≡◌, ℕ, List, [], ◌∷◌, ◌++◌, ◌∙◌, append_assoc}
 use Rattle.part_geometry.specs.Shape.{Shape}
 use Rattle.plain_pair.specs.declared.pair.PlainClosed.{PlainClosed}
 use Rattle.plain_pair.specs.Record.{Record}

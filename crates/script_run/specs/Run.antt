@@ -3,7 +3,6 @@ use Rattle.std.specs.Prelude.{◌≡◌, ℕ, bytes_eq, codes, if◌then◌else�
 use Rattle.std.specs.declared.alloc.Global.{Global}
 use Rattle.std.specs.declared.alloc.AllocError.{AllocError}
 use Rattle.part_geometry.specs.declared.answers.StartFault.{StartFault}
-use Rattle.part_geometry.specs.Shape.{Shape}
 use Rattle.plain_pair.specs.Record.{Record, first_record}
 use Rattle.plain_pair.specs.Moves.{start_send_answer, after_start_send, start_recv_answer, after_start_recv, pready_answer, after_pready, parrived_answer, take_answer, after_take}
 use Rattle.plain_pair.specs.Kept.{Kept}

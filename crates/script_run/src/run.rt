@@ -43,10 +43,8 @@ fn answer_step(
     line: &Line,
 ) -> Result<String, AllocError>
     requires { is_step sides.now.send.now sides.now.recv.now line.now ≡ true }
-    ensures runs {
-        let s = setting_of pair.old.shape sides.now.send.now sides.now.recv.now in
-        Runs pair.old pair.new result (λ r. answer s r line.now) (λ r. after s r line.now)
-    }
+    ensures runs { let s = setting_of pair.old.shape sides.now.send.now sides.now.recv.now in
+        Runs pair.old pair.new result (λ r. answer s r line.now) (λ r. after s r line.now) }
     ensures shape { pair.new.shape ≡ pair.old.shape }
 {
     match line {
@@ -75,10 +73,8 @@ fn run_steps(
     steps: &[Line],
 ) -> Result<Vec<u8>, AllocError>
     requires { list_all (is_step sides.now.send.now sides.now.recv.now) steps.now ≡ true }
-    ensures {
-        let s = setting_of geometry sides.now.send.now sides.now.recv.now in
-        IfOk result (λ text. text.items ≡ codes "ok\nok\nok\n" ++ answers_from s first_record (steps.now ++ End ∷ []))
-    }
+    ensures { let s = setting_of geometry sides.now.send.now sides.now.recv.now in
+        IfOk result (λ text. text.items ≡ codes "ok\nok\nok\n" ++ answers_from s first_record (steps.now ++ End ∷ [])) }
 {
     let mut pair = PlainPair::create(alloc, geometry)?;
     let mut text = Vec::from_slice(alloc, b"ok\nok\nok\n")?;
@@ -102,14 +98,10 @@ fn run_body(
 ) -> Result<Vec<u8>, AllocError>
     requires divided { is_divided grain depth send.now recv.now ≡ true }
     requires body { is_body send.now.name recv.now.name lines.now ≡ true }
-    ensures {
-        let s = setting_of (shape_of grain depth send.now recv.now) send.now.name recv.now.name in
-        IfOk result (λ text. text.items ≡ codes "ok\nok\nok\n" ++ answers_from s first_record lines.now)
-    }
+    ensures { let s = setting_of (shape_of grain depth send.now recv.now) send.now.name recv.now.name in
+        IfOk result (λ text. text.items ≡ codes "ok\nok\nok\n" ++ answers_from s first_record lines.now) }
 {
-    let made = Geometry::new(
-        send.parts, send.bytes, recv.parts, recv.bytes, grain, depth,
-    );
+    let made = Geometry::new(send.parts, send.bytes, recv.parts, recv.bytes, grain, depth);
     let Ok(geometry) = made else {
         unreachable!();
     };

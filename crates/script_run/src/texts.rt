@@ -9,10 +9,7 @@ use plain_pair::PlainClosed;
 use std::alloc::{AllocError, Global};
 
 /// The text of what a start answers.
-pub(crate) fn start(
-    alloc: Global,
-    answer: Result<u32, StartFault>,
-) -> Result<String, AllocError>
+pub(crate) fn start(alloc: Global, answer: Result<u32, StartFault>) -> Result<String, AllocError>
     ensures { IfOk result (λ text. string_bytes text ≡ start_text answer) }
 {
     match answer {
@@ -28,13 +25,9 @@ pub(crate) fn start(
 fn closed(alloc: Global, closed: PlainClosed) -> Result<String, AllocError>
     ensures { IfOk result (λ text. string_bytes text ≡ closed_text closed) }
 {
-    format!(
-        in alloc;
+    format!(in alloc;
         " started {} {} released {} pieces {}",
-        closed.send_round,
-        closed.recv_round,
-        closed.released,
-        closed.pieces_out
+        closed.send_round, closed.recv_round, closed.released, closed.pieces_out
     )
 }
 
