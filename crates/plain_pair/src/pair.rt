@@ -111,8 +111,8 @@ impl PlainPair {
     /// Starts the next round of the sender (`MPI_Start`, MPI 4.0, 3.9), and answers its number. Refused while the
     /// sender is active, and after the last round. Nothing is sent by it.
     pub fn start_send(&mut self) -> Result<u32, StartFault>
-        ensures follows { Follows self.old self.new result start_send_answer after_start_send }
         ensures shape { self.new.shape ≡ self.old.shape }
+        ensures answer { Follows self.old self.new result start_send_answer after_start_send }
     {
         let round = next_round(self.sending, self.sent)?;
         self.sent = round;
@@ -125,8 +125,8 @@ impl PlainPair {
     /// Starts the next round of the receiver, and answers its number. Refused while the receiver is active, and
     /// after the last round. It doesn't depend on the sender.
     pub fn start_recv(&mut self) -> Result<u32, StartFault>
-        ensures follows { Follows self.old self.new result start_recv_answer after_start_recv }
         ensures shape { self.new.shape ≡ self.old.shape }
+        ensures answer { Follows self.old self.new result start_recv_answer after_start_recv }
     {
         let round = next_round(self.receiving, self.received)?;
         self.received = round;

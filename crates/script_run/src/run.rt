@@ -25,7 +25,7 @@ struct Sides<'a> {
 
 /// Starts the side of this name, which is the receiver where it isn't the sender.
 fn start(pair: &mut PlainPair, send: &Name, name: &Name) -> Result<u32, StartFault>
-    ensures follows { Follows pair.old pair.new result (start_of send.now name.now) (after_start send.now name.now) }
+    ensures answer { Follows pair.old pair.new result (start_of send.now name.now) (after_start send.now name.now) }
     ensures shape { pair.new.shape ≡ pair.old.shape }
 {
     if name.is_same(send) {

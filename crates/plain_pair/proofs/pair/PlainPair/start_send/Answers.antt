@@ -11,6 +11,6 @@ pub invariant_of-self : goal.invariant_of-self
 invariant_of-self c =
     sound_sending (kept_of c.self.inside) _ _ _ _ c.self.invariant c.in_ok-round.ensures c.clear.ensures (c.reset.ensures ∙ c.needs.ensures)
 
-pub returns-clause-follows : goal.returns-clause-follows
-returns-clause-follows c = rw (← c.self.view_is)
+pub returns-clause-answer : goal.returns-clause-answer
+returns-clause-answer c = rw (← c.self.view_is)
     (follows_start_send (kept_of c.self.inside) _ _ _ c.self.invariant c.in_ok-round.ensures c.clear.ensures)
