@@ -48,13 +48,21 @@ arrived_text (look.NotYet i) = codes "flag 0 piece " ++ decimal i
 arrived_text look.Idle = codes "flag 1 idle"
 arrived_text look.BadPartition = codes "refused BadPartition"
 
+-- why a partition wasn't taken
+abbrev pub untaken_text : PlainTake → List ℕ
+untaken_text take.Idle = codes "refused Idle"
+untaken_text take.BadPartition = codes "refused BadPartition"
+untaken_text (take.AlreadyTaken k) = codes "refused AlreadyTaken " ++ decimal k
+untaken_text (take.NotYet i) = codes "refused NotYet " ++ decimal i
+
+-- bytes that were taken
+abbrev pub bytes_text : List ℕ → List ℕ
+bytes_text bytes = codes "bytes " ++ hex_of bytes
+
 -- of `take`
 abbrev pub take_text : Result Taken PlainTake → List ℕ
-take_text (Ok taken) = codes "bytes " ++ hex_of taken.bytes
-take_text (Err take.Idle) = codes "refused Idle"
-take_text (Err take.BadPartition) = codes "refused BadPartition"
-take_text (Err (take.AlreadyTaken k)) = codes "refused AlreadyTaken " ++ decimal k
-take_text (Err (take.NotYet i)) = codes "refused NotYet " ++ decimal i
+take_text (Ok taken) = bytes_text taken.bytes
+take_text (Err cause) = untaken_text cause
 
 -- how far the pair came
 abbrev pub closed_text : PlainClosed → List ℕ
