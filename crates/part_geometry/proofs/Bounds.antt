@@ -1,12 +1,12 @@
 -- The bounds one after another: each is the next multiple of either size after the one before.
-use Rattle.std.proofs.Common.{◌≡◌, ◌⊎◌, ℕ, zero, suc, add-zero, ◌+◌, ◌-◌, ◌*◌, ◌/◌, ◌%◌, ◌<◌, ◌≤◌, Bool, true, false, ◌||◌, ◌==◌, List, [], ◌∷◌, filter, length, drop, get_or, refl, add-one, ap, sym, ◌∙◌, arith, min, inl, inr}
+use Rattle.std.proofs.Common.{◌≡◌, ◌⊎◌, ℕ, zero, suc, add-zero, ◌+◌, ◌-◌, ◌*◌, ◌/◌, ◌<◌, ◌≤◌, true, false, List, [], ◌∷◌, filter, length, drop, get_or, refl, add-one, ap, sym, ◌∙◌, arith, min, inl, inr}
 use Rattle.std.specs.List.{range_with_len}
 use Rattle.std.proofs.lemmas.Bool.{cases_lt, eq-eqb, or_from, or_left, or_right}
 use Rattle.std.proofs.Math.Nat.{zero-mod}
 use Rattle.std.proofs.lemmas.Nat.{mul-le}
 use Rattle.std.proofs.lemmas.List.{get_or-drop, length-drop, drop-drop}
-use Rattle.part_geometry.specs.Shape.{Shape, IsShape, send_total, recv_total}
-use Rattle.part_geometry.specs.Cells.{is_bound, bounds, cells, start, end, send_of, recv_of}
+use Rattle.part_geometry.specs.Shape.{Shape, IsShape, send_total}
+use Rattle.part_geometry.specs.Cells.{is_bound, bounds, cells, start, end}
 use Rattle.part_geometry.proofs.Multiples.{none_between, next_above, next_within, is_multiple, filter-skip, filter-keep}
 
 -- the next bound after a place

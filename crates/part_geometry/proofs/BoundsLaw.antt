@@ -1,14 +1,14 @@
 -- The list of bounds is ascending, and has the bounds and nothing else.
-use Rattle.std.proofs.Common.{◌≡◌, ◌⊎◌, ◌↔◌, ℕ, zero, suc, zero-add, ◌+◌, ◌-◌, ◌*◌, ◌/◌, ◌%◌, ◌<◌, ◌≤◌, Bool, true, false, ◌==◌, cond, List, [], ◌∷◌, ◌++◌, filter, length, get_or, Contains, refl, add-one, ap, sym, ◌∙◌, arith, inl, inr, subst}
+use Rattle.std.proofs.Common.{◌≡◌, ℕ, zero, suc, ◌+◌, ◌*◌, ◌/◌, ◌%◌, ◌<◌, ◌≤◌, Bool, true, false, ◌==◌, cond, [], ◌∷◌, filter, Contains, sym, ◌∙◌, arith, inl, inr}
 use Rattle.std.specs.List.{range_with_len}
-use Rattle.std.proofs.Math.Nat.{suc-add, mul-mod_left}
-use Rattle.std.proofs.lemmas.Nat.{mul-le, le-div}
-use Rattle.std.proofs.lemmas.Bool.{cases_lt, cases_eq, or_cases, or_left, or_right, eqb-true, eq-eqb, cases_Bool}
+use Rattle.std.proofs.Math.Nat.{mul-mod_left}
+use Rattle.std.proofs.lemmas.Nat.{mul-le}
+use Rattle.std.proofs.lemmas.Bool.{cases_lt, cases_eq, or_cases, or_left, or_right, eqb-true, eq-eqb}
 use Rattle.std.proofs.lemmas.List.{get_or_default}
 use Rattle.std.proofs.lemmas.List.Elements.{Contains-append_right}
-use Rattle.part_geometry.specs.Shape.{Shape, IsShape, send_total, recv_total}
+use Rattle.part_geometry.specs.Shape.{Shape, IsShape, send_total}
 use Rattle.part_geometry.specs.Cells.{IsBound, AreBounds, is_bound, bounds, cells, start}
-use Rattle.part_geometry.proofs.Bounds.{is_at, start-rises, start-within, cells-pos}
+use Rattle.part_geometry.proofs.Bounds.{is_at, start-rises}
 
 -- a place of a range that passes is in the filtered range
 Contains-filter_range : (p : ℕ → Bool) (n a x : ℕ) → a ≤ x → x < a + n → p x ≡ true → Contains (filter p (range_with_len a n)) x

@@ -1,9 +1,9 @@
 -- The pieces are the one division of the cells by the rule.
-use Rattle.std.proofs.Common.{◌≡◌, ◌⊎◌, ℕ, zero, suc, ◌+◌, ◌-◌, ◌<◌, ◌≤◌, Bool, true, false, cond, ◌==◌, List, [], ◌∷◌, refl, ap, sym, ◌∙◌, arith, inl, inr, rules}
+use Rattle.std.proofs.Common.{◌≡◌, ℕ, zero, suc, ◌+◌, ◌<◌, ◌≤◌, true, false, cond, List, [], ◌∷◌, refl, ◌∙◌, arith, inl, inr}
 use Rattle.std.proofs.lemmas.Bool.{cases_order, both_ways, or_right, eq-eqb}
 use Rattle.part_geometry.specs.Shape.{Shape}
 use Rattle.part_geometry.specs.Cells.{cells}
-use Rattle.part_geometry.specs.Pieces.{Run, closes, IsRun, IsDivisionFrom, IsDivision, IsTheDivision, runs_from, pieces_of}
+use Rattle.part_geometry.specs.Pieces.{Run, closes, IsDivisionFrom, IsTheDivision, runs_from, pieces_of}
 
 -- a run is open from cell f on, up to cell c, and n cells are left
 pub record IsOpen (g : Shape) (f c n : ℕ) : Type 0 where

@@ -6,3 +6,4 @@ pub mod Division
 pub mod PieceFacts
 pub mod WalkFacts
 pub mod Rows
+pub mod ReaderFacts

@@ -1,10 +1,10 @@
 -- Which partition a cell lies in, from cell to cell.
-use Rattle.std.proofs.Common.{◌≡◌, ◌⊎◌, ℕ, zero, suc, ◌+◌, ◌-◌, ◌*◌, ◌/◌, ◌<◌, ◌≤◌, refl, ap, sym, ◌∙◌, arith, inl, inr}
+use Rattle.std.proofs.Common.{◌≡◌, ◌⊎◌, ℕ, ◌+◌, ◌-◌, ◌*◌, ◌/◌, ◌<◌, ◌≤◌, ap, ◌∙◌, arith, inl, inr}
 use Rattle.std.proofs.Math.Nat.{zero-div, mul-div_left, div-eq_of_lt-le, div-lt_iff_lt-mul, le-div_iff_mul-le}
 use Rattle.std.proofs.lemmas.Bool.{cases_lt}
-use Rattle.part_geometry.specs.Shape.{Shape, IsShape, send_total, recv_total}
+use Rattle.part_geometry.specs.Shape.{Shape, IsShape}
 use Rattle.part_geometry.specs.Cells.{cells, start, end, send_of, recv_of}
-use Rattle.part_geometry.proofs.Bounds.{next_bound, start-next, start-below, start-mono, start-rises, start-last, start-zero, end-start}
+use Rattle.part_geometry.proofs.Bounds.{start-next, start-below, start-mono, start-rises, start-last, start-zero, end-start}
 
 -- the quotient stays up to the next multiple, and is one more there
 same_quotient : (x y s : ℕ) → 0 < s → x ≤ y → y < (x / s + 1) * s → y / s ≡ x / s

@@ -1,11 +1,11 @@
 -- What follows from the rule of the pieces: their first and last cells, and the piece of a cell.
-use Rattle.std.proofs.Common.{◌≡◌, ◌⊎◌, ℕ, zero, suc, zero-add, add-zero, ◌+◌, ◌-◌, ◌*◌, ◌<◌, ◌≤◌, Bool, true, false, cond, ◌==◌, nat_lt, List, [], ◌∷◌, length, get_or, drop, count_by, refl, ap, sym, subst, ◌∙◌, add-one, arith, inl, inr, rules}
-use Rattle.std.proofs.lemmas.Bool.{cases_lt, cases_order, both_ways, or_right, or_parts, eq-eqb, leb-false, lt-ltb, le-ltb}
+use Rattle.std.proofs.Common.{◌≡◌, ℕ, zero, suc, ◌+◌, ◌-◌, ◌*◌, ◌<◌, ◌≤◌, true, false, cond, nat_lt, List, [], ◌∷◌, length, get_or, count_by, refl, ap, sym, subst, add-one, arith, inl, inr}
+use Rattle.std.proofs.lemmas.Bool.{cases_lt, cases_order, or_parts, leb-false, lt-ltb, le-ltb}
 use Rattle.std.proofs.lemmas.List.Sums.{sum_by-cons}
 use Rattle.part_geometry.specs.Shape.{Shape, IsShape}
-use Rattle.part_geometry.specs.Cells.{cells, end, send_of, recv_of}
-use Rattle.part_geometry.specs.Pieces.{Run, closes, touched, IsRun, IsDivisionFrom, IsDivision, runs_from, pieces_of, pieces, first_cell, last_cell, piece_of, first_part, last_part, need_count, Touches}
-use Rattle.part_geometry.proofs.Division.{IsOpen, the_division, after_close, after_open}
+use Rattle.part_geometry.specs.Cells.{cells, end, send_of}
+use Rattle.part_geometry.specs.Pieces.{Run, closes, touched, IsRun, IsDivisionFrom, IsDivision, runs_from, pieces_of, pieces, first_cell, last_cell, piece_of, IsPieceOf, first_part, last_part, need_count, Touches}
+use Rattle.part_geometry.proofs.Division.{the_division}
 use Rattle.part_geometry.proofs.Parts.{send-mono, send-next-same, send-next-more, send_end-le}
 
 at : List Run → ℕ → Run
@@ -93,11 +93,6 @@ unfolding pieces first_cell last_cell piece_of at
 piece_of-inside g i c inside low high = ended g 0 (pieces_of g) (divided g) i c inside low high
 
 -- each cell has a piece, and lies in it
-pub record IsPieceOf (g : Shape) (c i : ℕ) : Type 0 where
-  pub inside : i < pieces g
-  pub low : first_cell g i ≤ c
-  pub high : c ≤ last_cell g i
-
 pub piece_of-holds : (g : Shape) (c : ℕ) → c < cells g → IsPieceOf g c (piece_of g c)
 unfolding pieces first_cell last_cell at
 piece_of-holds g c inside =

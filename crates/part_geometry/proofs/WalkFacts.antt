@@ -1,15 +1,15 @@
 -- What a walk knows of the cell that it stands before.
-use Rattle.std.proofs.Common.{◌≡◌, ◌≢◌, ◌⊎◌, ℕ, zero, suc, add-zero, ◌+◌, ◌-◌, ◌*◌, ◌<◌, ◌≤◌, min, Bool, true, false, nat_le, cond, if◌then◌else◌, ◌==◌, Some, None, List, [], ◌∷◌, length, get_or, drop, refl, ap, sym, ◌∙◌, arith, inl, inr}
-use Rattle.std.proofs.lemmas.Bool.{le-ltb, lt-ltb, le-leb, lt-leb, or_left, or_right, cases_Bool, cases_lt, cases_eq, eq-eqb, ne_eqb, cond-true, cond-false}
+use Rattle.std.proofs.Common.{◌≡◌, ◌≢◌, ℕ, zero, suc, add-zero, ◌+◌, ◌-◌, ◌*◌, ◌<◌, ◌≤◌, min, true, false, nat_le, if◌then◌else◌, ◌==◌, Some, None, List, ◌∷◌, length, get_or, drop, refl, ap, sym, ◌∙◌, arith, inl, inr}
+use Rattle.std.proofs.lemmas.Bool.{le-ltb, lt-ltb, le-leb, lt-leb, cases_Bool, cases_lt, cases_eq, eq-eqb, ne_eqb, cond-true, cond-false}
 use Rattle.std.proofs.lemmas.Nat.{mul-le}
 use Rattle.std.proofs.lemmas.List.{get_or-drop, length-drop, drop-drop}
 use Rattle.part_geometry.specs.declared.walk.Side.{Side}
 use Rattle.part_geometry.specs.declared.walk.Position.{Position}
-use Rattle.part_geometry.specs.Shape.{Shape, IsShape, send_total, recv_total}
+use Rattle.part_geometry.specs.Shape.{Shape, IsShape, send_total}
 use Rattle.part_geometry.specs.Cells.{cells, start, end, send_of, recv_of}
 use Rattle.part_geometry.specs.Pieces.{Run, closes, touched, runs_from, pieces_of, pieces, first_cell, last_cell, piece_of}
-use Rattle.part_geometry.specs.Walk.{Walked, IsSide, IsBefore, cell_at, next_cell, passed}
-use Rattle.part_geometry.proofs.Bounds.{start-below, start-last, start-rises, start-within, cells-le, cells-pos, end-start, start-zero}
+use Rattle.part_geometry.specs.Walk.{IsSide, IsBefore, cell_at, next_cell, passed}
+use Rattle.part_geometry.proofs.Bounds.{start-below, start-last, start-rises, start-within, cells-le, end-start, start-zero}
 use Rattle.part_geometry.proofs.Parts.{send_end-le, recv_end-le, end-min, send-next-same, send-next-more, recv-next-same, recv-next-more, start-le, send-mono, send-below, recv-below, send-zero, recv-zero}
 use Rattle.part_geometry.proofs.PieceFacts.{piece_of-inside, piece_of-holds, pieces-le}
 use Rattle.part_geometry.proofs.Division.{last_closes}

@@ -63,6 +63,12 @@ last_cell g i = (slice_index_or (pieces_of g) i (0, 0)).1
 unfoldable pub piece_of : Shape → ℕ → ℕ
 piece_of g c = count_by (λ run. nat_lt run.1 c) (pieces_of g)
 
+-- a cell lies in a piece
+pub record IsPieceOf (g : Shape) (c i : ℕ) : Type 0 where
+  pub inside : i < pieces g
+  pub low : first_cell g i ≤ c
+  pub high : c ≤ last_cell g i
+
 -- a piece and a partition touch where they share a cell
 abbrev pub Touches : Shape → ℕ → ℕ → Type 0
 Touches g i p = (c : ℕ) × (first_cell g i ≤ c) × (c ≤ last_cell g i) × (send_of g c ≡ p)

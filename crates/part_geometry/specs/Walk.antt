@@ -1,5 +1,5 @@
 -- A walk over the cells of a geometry, from the first to the last.
-use Rattle.std.specs.Prelude.{◌≡◌, ℕ, ◌+◌, ◌-◌, ◌*◌, ◌≤◌, min, nat_lt, if◌then◌else◌, Option, Some, None, drop}
+use Rattle.std.specs.Prelude.{◌≡◌, ℕ, ◌+◌, ◌-◌, ◌*◌, ◌≤◌, nat_lt, if◌then◌else◌, Option, Some, None, drop}
 use Rattle.part_geometry.specs.declared.walk.Cell.{Cell}
 use Rattle.part_geometry.specs.declared.walk.Side.{Side}
 use Rattle.part_geometry.specs.declared.walk.Position.{Position}

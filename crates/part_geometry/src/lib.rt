@@ -3,6 +3,9 @@
 
 mod answers;
 mod geometry;
+mod readers;
+#[cfg(test)]
+mod tests;
 mod walk;
 
 pub use answers::{Marked, Marks, RecvTest, StartFault};

@@ -6,3 +6,11 @@ pub mod Rounds
 pub mod Starts
 pub mod Outs
 pub mod Closing
+pub mod Writing
+pub mod Storing
+pub mod Lessening
+pub mod Touching
+pub mod Places
+pub mod Agree
+pub mod Marks
+pub mod Refusals

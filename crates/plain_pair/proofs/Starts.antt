@@ -62,6 +62,7 @@ sound_start_send k missing needs s idle more is =
         sent = omega arith;
         received = r.received;
         released = (let h = r.released in omega arith);
+        begun = λ e. omega arith;
         ahead = (let h = r.idle_ahead idle in omega arith);
         idle_ahead = λ e. absurd (false≢true (sym e));
         idle = r.idle;
@@ -69,6 +70,7 @@ sound_start_send k missing needs s idle more is =
       };
       counts = λ i inside. rw is (get_or-map-range_with_len (need_count g) 0 (pieces g) i i 0 inside (omega arith)) ∙ sym (unmarked-none g (length k.marked) i);
       whole = λ e. absurd (false≢true (sym e));
+      done = λ e. (let h = r.released in absurd (omega arith));
       arrived = λ busy q x inside taken place there.
           let old = s.arrived busy q x inside taken place there in
           kept_mark-before (sending_kept k) k.received _ (let h = kept_mark-within k k.received _ old in omega arith);
@@ -78,7 +80,7 @@ sound_start_send k missing needs s idle more is =
 later_pos : (a b : ℕ) → a < b → 0 < b
 later_pos a b h = omega arith
 
-kept_out-sending : (k : Kept) → IsShape k.shape → kept_out (sending_kept k) ≡ k.sent * pieces k.shape
+pub kept_out-sending : (k : Kept) → IsShape k.shape → kept_out (sending_kept k) ≡ k.sent * pieces k.shape
 unfolding kept_out
 kept_out-sending k v =
     let g = k.shape in
@@ -87,7 +89,7 @@ kept_out-sending k v =
     let before : k.sent + 1 - 1 ≡ k.sent = omega arith in
     rw (ne_eqb (k.sent + 1) 0 (λ e. omega arith), none, before) (add-zero _)
 
-kept_out-whole : (k : Kept) → IsShape k.shape → ((p : ℕ) → 0 < k.sent → p < k.shape.send_parts → has k.marked p ≡ true) → kept_out k ≡ k.sent * pieces k.shape
+pub kept_out-whole : (k : Kept) → IsShape k.shape → ((p : ℕ) → 0 < k.sent → p < k.shape.send_parts → has k.marked p ≡ true) → kept_out k ≡ k.sent * pieces k.shape
 unfolding kept_out
 kept_out-whole k v whole =
     let g = k.shape in
@@ -214,6 +216,7 @@ sound_first g v needs is = record {
     sent = omega arith;
     received = omega arith;
     released = omega arith;
+    begun = λ e. absurd (false≢true e);
     ahead = omega arith;
     idle_ahead = λ e. (let h = v.depth.0 in omega arith);
     idle = λ e. refl;
@@ -221,6 +224,7 @@ sound_first g v needs is = record {
   };
   counts = λ i inside. rw is (get_or-map-range_with_len (need_count g) 0 (pieces g) i i 0 inside (omega arith)) ∙ sym (unmarked-none g g.send_parts i);
   whole = λ e some. absurd (omega arith);
+  done = λ e some. absurd (omega arith);
   arrived = λ e. absurd (false≢true e);
 }
 

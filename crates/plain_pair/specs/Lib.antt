@@ -1,3 +1,4 @@
+pub mod Written
 pub mod Record
 pub mod Taken
 pub mod Moves
@@ -7,3 +8,6 @@ pub mod Tables
 pub mod Sound
 pub mod Pair
 pub mod Closing
+pub mod Stored
+pub mod Lessens
+pub mod Marking

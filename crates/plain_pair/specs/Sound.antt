@@ -28,17 +28,20 @@ pub record HasRounds (kept : Kept) : Type 0 where
   pub sent : kept.sent ≤ 2147483647
   pub received : kept.received ≤ 2147483647
   pub released : kept.released ≤ kept.sent
+  pub begun : kept.sending ≡ true → 0 < kept.sent
   pub ahead : kept.sent ≤ kept.released + kept.shape.depth
   pub idle_ahead : kept.sending ≡ false → kept.sent < kept.released + kept.shape.depth
   pub idle : kept.receiving ≡ false → kept.received ≡ kept.released
   pub busy : kept.receiving ≡ true → kept.received ≡ kept.released + 1
 
--- `missing` counts what is unmarked; an inactive sender's round is whole; what was taken had arrived
+-- `missing` counts what is unmarked; the round of an inactive sender, or a released one, is whole; what was taken
+-- had arrived
 pub record IsSound (kept : Kept) (missing : List ℕ) : Type 0 where
   pub shape : IsShape kept.shape
   pub sizes : HasSizes kept missing
   pub rounds : HasRounds kept
   pub counts : (i : ℕ) → i < pieces kept.shape → slice_index missing i ≡ unmarked kept.shape kept.marked i
   pub whole : kept.sending ≡ false → 0 < kept.sent → (p : ℕ) → p < kept.shape.send_parts → has kept.marked p ≡ true
+  pub done : kept.released ≡ kept.sent → 0 < kept.sent → (p : ℕ) → p < kept.shape.send_parts → has kept.marked p ≡ true
   pub arrived : kept.receiving ≡ true → (q x : ℕ) → q < kept.shape.recv_parts → has kept.taken q ≡ true → x < send_total kept.shape
       → x / kept.shape.recv_bytes ≡ q → kept_mark kept kept.received (x / kept.shape.send_bytes) ≡ true

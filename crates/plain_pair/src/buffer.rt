@@ -1,6 +1,7 @@
 //! The bytes of a receive partition.
 
-ghost use Rattle.std.specs.Prelude.{◌≡◌, ◌≤◌, ◌+◌, ◌++◌, ℕ, List, [], length, take, drop, replicate, IfOk};
+ghost use Rattle.std.specs.Prelude.{◌≡◌, ◌+◌, ◌<◌, ◌≤◌, ℕ, List, [], length, replicate, slice_index_or, slice_set, IfOk};
+ghost use Rattle.plain_pair.specs.Written.{written};
 
 use std::alloc::{AllocError, Global};
 use std::marker::Model;
@@ -17,6 +18,15 @@ impl Model for Buffer {
     ghost view = { λ b. b.bytes.items };
 }
 
+/// Writes a piece over what stands from `at` on.
+fn overwrite(bytes: &mut [u8], at: usize, piece: &[u8])
+    requires { at + length piece.now ≤ length bytes.old }
+    ensures { bytes.new ≡ written bytes.old at piece.now }
+{
+    let end = at + piece.len();
+    bytes[at..end].copy_from_slice(piece);
+}
+
 impl Buffer {
     /// A buffer of `len` zeros.
     pub(crate) fn zeros(alloc: Global, len: usize) -> Result<Buffer, AllocError>
@@ -25,6 +35,14 @@ impl Buffer {
         Ok(Buffer {
             bytes: vec![in alloc; 0; len]?,
         })
+    }
+
+    /// Writes a piece over the bytes from `at` on.
+    pub(crate) fn write(&mut self, at: usize, piece: &[u8])
+        requires { at + length piece.now ≤ length self.old }
+        ensures { self.new ≡ written self.old at piece.now }
+    {
+        overwrite(self.bytes.as_mut_slice(), at, piece);
     }
 }
 
@@ -41,4 +59,15 @@ pub(crate) fn zero_buffers(
         buffers.push(Buffer::zeros(alloc, len)?)?;
     }
     Ok(buffers)
+}
+
+/// Writes a piece into one of the buffers.
+pub(crate) fn write_at(buffers: &mut Vec<Buffer>, index: usize, at: usize, piece: &[u8])
+    requires index { index < length buffers.old.items }
+    requires fits { at + length piece.now ≤ length (slice_index_or buffers.old.items index []) }
+    ensures { buffers.new.items
+        ≡ slice_set buffers.old.items index (written (slice_index_or buffers.old.items index []) at piece.now) }
+{
+    let buffer = &mut buffers[index];
+    buffer.write(at, piece);
 }

@@ -1,6 +1,6 @@
 //! One truth value for each partition, and one count for each piece.
 
-ghost use Rattle.std.specs.Prelude.{◌≡◌, ◌+◌, ◌-◌, ◌*◌, ◌≤◌, ◌==◌, if◌then◌else◌, count_by, Bool, false, length, replicate, IfOk};
+ghost use Rattle.std.specs.Prelude.{◌≡◌, ◌+◌, ◌-◌, ◌*◌, ◌≤◌, ◌==◌, if◌then◌else◌, count_by, Bool, false, length, replicate, slice_set, true, ◌<◌, IfOk};
 
 use std::alloc::{AllocError, Global};
 
@@ -44,4 +44,12 @@ pub(crate) fn pieces_out(round: u32, missing: &[u32]) -> u64
     }
     let whole = missing.iter().filter(|m| **m == 0).count();
     u64::from(round - 1) * missing.len() as u64 + whole as u64
+}
+
+/// One partition more.
+pub(crate) fn add(flags: &mut Vec<bool>, partition: usize)
+    requires { partition < length flags.old.items }
+    ensures { flags.new.items ≡ slice_set flags.old.items partition true }
+{
+    flags[partition] = true;
 }

@@ -4,6 +4,7 @@
 mod answers;
 mod buffer;
 mod flags;
+mod marking;
 mod pair;
 mod tables;
 

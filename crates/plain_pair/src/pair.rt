@@ -1,12 +1,14 @@
 //! The object.
 
-ghost use Rattle.std.specs.Prelude.{◌≡◌, ◌^◌, ◌≤◌, IfOk};
+ghost use Rattle.std.specs.Prelude.{◌≡◌, ◌≤◌, length, IfOk};
 ghost use Rattle.plain_pair.specs.Moves.{start_answer};
 
 use crate::buffer::{Buffer, zero_buffers};
-use crate::flags::{all_missing, clear, none_of, pieces_out, reset};
+use crate::flags::{add, all_missing, clear, none_of, pieces_out, reset};
+use crate::answers::PlainRefusal;
+use crate::marking::{count_down, store};
 use crate::tables::Tables;
-use part_geometry::{Geometry, StartFault};
+use part_geometry::{Geometry, Marked, StartFault};
 use std::alloc::{AllocError, Global};
 use std::marker::Model;
 
@@ -71,8 +73,9 @@ fn next_round(active: bool, round: u32) -> Result<u32, StartFault>
 
 impl PlainPair {
     ghost use Rattle.plain_pair.specs.Record.{first_record};
-    ghost use Rattle.plain_pair.specs.Moves.{start_send_answer, after_start_send, start_recv_answer, after_start_recv};
+    ghost use Rattle.plain_pair.specs.Moves.{start_send_answer, after_start_send, start_recv_answer, after_start_recv, pready_answer, after_pready};
     ghost use Rattle.plain_pair.specs.Closing.{closed_answer};
+    ghost use Rattle.plain_pair.specs.Marking.{CanMark, Marks, refusal};
     ghost use Rattle.plain_pair.specs.StandsFor.{StandsFor, Follows};
 
     /// A pair of a geometry with both sides inactive, before the first round (`MPI_Psend_init` and
@@ -146,5 +149,59 @@ impl PlainPair {
             released: self.released,
             pieces_out: pieces_out(self.sent, &self.missing),
         }
+    }
+
+    /// Marks send partition `p` ready in a round, with its bytes (`MPI_Pready`, MPI 4.0, 4.2.2). Refused where the
+    /// sender has no such partition, the bytes aren't as many as a partition has, the sender isn't active in this
+    /// round, or the partition is marked already; nothing changes then.
+    pub fn pready(&mut self, round: u32, p: u32, bytes: &[u8]) -> Result<Marked, PlainRefusal>
+        ensures shape { self.new.shape ≡ self.old.shape }
+        ensures answer { Follows self.old self.new result
+            (λ r. pready_answer self.old.shape r round p bytes.now)
+            (λ r. after_pready self.old.shape r round p bytes.now) }
+    {
+        let _tables = &self.tables;
+        self.refuse_mark(round, p, bytes.len())?;
+        let sent = self.mark(p as usize, bytes);
+        Ok(Marked {
+            round,
+            partition: p,
+            sent,
+        })
+    }
+
+    /// The first cause against a mark of `size` bytes.
+    fn refuse_mark(&self, round: u32, p: u32, size: usize) -> Result<(), PlainRefusal>
+        ensures { result ≡ refusal self.now round p size }
+    {
+        let geometry = self.tables.geometry();
+        if p >= geometry.send_parts() {
+            return Err(PlainRefusal::BadPartition);
+        }
+        if size != geometry.send_bytes() as usize {
+            return Err(PlainRefusal::BadLength);
+        }
+        if !(self.sending && round == self.sent) {
+            return Err(PlainRefusal::NotActive);
+        }
+        if self.marked[p as usize] {
+            return Err(PlainRefusal::AlreadyMarked);
+        }
+        Ok(())
+    }
+
+    /// Marks a partition that may be marked. Answers how many pieces went out.
+    fn mark(&mut self, p: usize, bytes: &[u8]) -> u32
+        requires free { CanMark self.old p }
+        requires length { length bytes.now ≡ self.old.shape.send_bytes }
+        ensures shape { self.new.shape ≡ self.old.shape }
+        ensures marks { Marks self.old self.new p bytes.now result }
+    {
+        let geometry = self.tables.geometry();
+        let base = (self.sent % geometry.depth()) as usize * geometry.recv_parts() as usize;
+        store(&self.tables, &mut self.buffers, base, p, bytes);
+        add(&mut self.marked, p);
+        let (first, end) = self.tables.send_pieces(p);
+        count_down(&mut self.missing, first, end)
     }
 }

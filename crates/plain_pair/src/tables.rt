@@ -6,7 +6,7 @@ ghost use Rattle.part_geometry.specs.Shape.{IsShape};
 ghost use Rattle.part_geometry.specs.Cells.{cells};
 ghost use Rattle.part_geometry.specs.Pieces.{pieces, need_count};
 ghost use Rattle.part_geometry.specs.Walk.{cell_at};
-ghost use Rattle.plain_pair.specs.Tables.{AreCellsOf, AreFirsts};
+ghost use Rattle.plain_pair.specs.Tables.{AreCellsOf, AreFirsts, ArePiecesOf};
 
 use part_geometry::{Cell, CellWalk, Geometry};
 use std::alloc::{AllocError, Global};
@@ -168,5 +168,16 @@ impl Tables {
         ensures { AreCellsOf Row.Recv self.now q result.0 result.1 }
     {
         (self.recvs[q], self.recvs[q + 1])
+    }
+
+    /// The first piece that send partition `p` touches, and the piece behind the last.
+    pub(crate) fn send_pieces(&self, p: usize) -> (usize, usize)
+        requires { p < self.now.send_parts }
+        ensures { ArePiecesOf self.now p result.0 result.1 }
+    {
+        let _geometry = self.geometry();
+        let (first, end) = self.send_cells(p);
+        let last = self.cell(end - 1).piece as usize;
+        (self.cell(first).piece as usize, last + 1)
     }
 }

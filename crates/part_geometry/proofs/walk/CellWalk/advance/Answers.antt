@@ -1,5 +1,5 @@
-use Rattle.std.proofs.Common.{◌≡◌, sym, ◌∙◌, arith}
-use Rattle.part_geometry.proofs.WalkFacts.{at_total, before_total, no_next, some_next, stays, goes}
+use Rattle.std.proofs.Common.{sym, ◌∙◌}
+use Rattle.part_geometry.proofs.WalkFacts.{at_total, before_total, no_next, stays}
 use Rattle.part_geometry.proofs.walk.CellWalk.advance.Goals as goal
 
 pub returns-then-self-total-clause-cell : goal.returns-then-self-total-clause-cell

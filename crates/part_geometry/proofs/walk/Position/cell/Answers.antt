@@ -1,4 +1,3 @@
-use Rattle.std.proofs.Common.{arith}
 use Rattle.part_geometry.proofs.WalkFacts.{end-before, piece-before}
 use Rattle.part_geometry.proofs.walk.Position.cell.Goals as goal
 

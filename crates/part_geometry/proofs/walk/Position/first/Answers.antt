@@ -1,4 +1,4 @@
-use Rattle.std.proofs.Common.{refl, arith}
+use Rattle.std.proofs.Common.{refl}
 use Rattle.part_geometry.proofs.WalkFacts.{first_before, first_side}
 use Rattle.part_geometry.proofs.walk.Position.first.Goals as goal
 
