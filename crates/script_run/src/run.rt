@@ -52,6 +52,15 @@ fn answer_step(
             let round = start(pair, sides.send, name);
             texts::start(alloc, round)
         }
+        Line::Ready {
+            round,
+            partition,
+            bytes,
+            ..
+        } => {
+            let marked = pair.pready(*round, *partition, bytes.as_slice());
+            texts::ready(alloc, marked)
+        }
         _ => unreachable!(),
     }
 }

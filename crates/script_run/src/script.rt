@@ -94,6 +94,7 @@ fn is_step(send: &Name, recv: &Name, line: &Line) -> bool
 {
     match line {
         Line::Start { name } => name.is_same(send) || name.is_same(recv),
+        Line::Ready { name, .. } => name.is_same(send),
         _ => false,
     }
 }
