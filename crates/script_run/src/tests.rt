@@ -48,6 +48,19 @@ fn is_head(lines: &[Line]) -> bool {
     }
 }
 
+/// Whether a line is this `ready`.
+fn is_ready(line: &Line, of: &[u8], at: [u32; 2], written: &[u8]) -> bool {
+    match line {
+        Line::Ready {
+            name,
+            round,
+            partition,
+            bytes,
+        } => name.as_slice() == of && [*round, *partition] == at && bytes.as_slice() == written,
+        _ => false,
+    }
+}
+
 /// Whether a line is this `start`.
 fn is_start(line: &Line, of: &[u8]) -> bool {
     matches!(line, Line::Start { name } if name.as_slice() == of)
@@ -55,14 +68,17 @@ fn is_start(line: &Line, of: &[u8]) -> bool {
 
 #[test]
 fn each_line_is_read(rt: HostRuntime) -> Result<(), Fail> {
-    let text = b"world 2 4 2\nsend a 0 1 7 3 2 4\nrecv b 0 1 7 3 4 2\nstart a\nstart b\nend\n";
+    let text =
+        b"world 2 4 2\nsend a 0 1 7 3 2 4\nrecv b 0 1 7 3 4 2\nstart a\nstart b\nready a 1 1 0aFf10B2\nready a 1 0 -\nend\n";
     let script = parse_script(rt.alloc(), text)?;
     let lines = script.lines();
-    assert_eq!(rt; lines.len(), 6);
+    assert_eq!(rt; lines.len(), 8);
     assert!(rt; is_head(lines));
     assert!(rt; is_start(&lines[3], b"a"));
     assert!(rt; is_start(&lines[4], b"b"));
-    assert!(rt; matches!(lines[5], Line::End));
+    assert!(rt; is_ready(&lines[5], b"a", [1, 1], &[10, 255, 16, 178]));
+    assert!(rt; is_ready(&lines[6], b"a", [1, 0], &[]));
+    assert!(rt; matches!(lines[7], Line::End));
     Ok(())
 }
 
@@ -87,7 +103,6 @@ fn other_texts_are_refused(rt: HostRuntime) -> Result<(), Fail> {
         "ready b 1 0 ab\nend\n",
         "arrived a 0\nend\n",
         "test b\nend\n",
-        "ready a 1 0 ab\nend\n",
         "arrived b 0\nend\n",
         "take b 0\nend\n",
         "end\nend\n",
@@ -120,7 +135,15 @@ fn heads_have_limits(rt: HostRuntime) -> Result<(), Fail> {
 }
 
 #[test]
-fn limits_of_heads_are_reached(rt: HostRuntime) -> Result<(), Fail> {
+fn limits_are_reached(rt: HostRuntime) -> Result<(), Fail> {
+    let bodies = [
+        "ready a 1 0 -\nend\n",
+        "ready a 0000000000000000001 0 ab\nend\n",
+        "ready a 1 4294967295 ab\nend\n",
+    ];
+    for body in bodies {
+        assert_eq!(rt; count(rt.alloc(), HEAD, body)?, Some(5), "{body:?}");
+    }
     let long =
         "world 64 4 2\nsend abcdefghijklmnop 63 63 32767 15 2 4\nrecv Q_9 63 63 32767 15 4 2\n";
     assert_eq!(rt; count(rt.alloc(), long, "end\n")?, Some(4));
@@ -152,6 +175,17 @@ fn the_receiver_starts_alone(rt: HostRuntime) -> Result<(), Fail> {
     let text = b"world 64 4 2\nsend a_1 3 3 0 15 2 4\nrecv B 3 3 0 15 4 2\nstart B\nstart B\nend\n";
     let wanted =
         b"ok\nok\nok\nround 1\nrefused AlreadyActive 1\npair a_1 B started 0 1 released 0 pieces 0\n";
+    let got = answers(rt.alloc(), text)?;
+    assert!(rt; got.as_slice() == wanted.as_slice());
+    Ok(())
+}
+
+#[test]
+fn marks_are_run(rt: HostRuntime) -> Result<(), Fail> {
+    let text =
+        b"world 2 1 1\nsend a 0 1 7 0 3 4\nrecv b 0 1 7 0 2 6\nready a 1 0 00010203\nstart a\nready a 1 1 04050607\nready a 1 0 00010203\nready a 2 2 00010203\nready a 1 0 00010203\nready a 1 3 00010203\nready a 1 2 -\nend\n";
+    let wanted =
+        b"ok\nok\nok\nrefused NotActive\nround 1\nmarked 2\nmarked 1\nrefused NotActive\nrefused AlreadyMarked\nrefused BadPartition\nrefused BadLength\npair a b started 1 0 released 0 pieces 3\n";
     let got = answers(rt.alloc(), text)?;
     assert!(rt; got.as_slice() == wanted.as_slice());
     Ok(())
