@@ -1,21 +1,21 @@
 -- The sender's round as it is kept and as the record has it.
-use Rattle.std.proofs.Common.{◌≡◌, ◌≢◌, ◌⊎◌, ℕ, zero, suc, zero-add, add-zero, ◌+◌, ◌-◌, ◌*◌, ◌<◌, ◌≤◌, ◌==◌, Bool, true, false, cond, ◌&&◌, not, List, [], ◌∷◌, length, get_or, count_by, sum_by, refl, ap, sym, ◌∙◌, arith, inl, inr}
+use Rattle.std.proofs.Common.{◌≡◌, ℕ, zero, suc, ◌+◌, ◌-◌, ◌*◌, ◌<◌, ◌≤◌, Bool, true, cond, ◌&&◌, List, [], ◌∷◌, length, get_or, count_by, sum_by, refl, ap, sym, ◌∙◌, arith, inl, inr}
 use Rattle.std.specs.List.{range_with_len, list_all}
-use Rattle.std.proofs.lemmas.Bool.{cases_lt, cases_eq, cases_Bool, eq-eqb, ne_eqb, lt-ltb, le-ltb, false≢true}
+use Rattle.std.proofs.lemmas.Bool.{cases_lt, cases_Bool, eq-eqb, le-ltb}
 use Rattle.std.proofs.lemmas.List.Sums.{sum_by-cons, count_by-le-length}
 use Rattle.std.proofs.lemmas.List.FromFn.{length-range_with_len}
-use Rattle.std.proofs.Math.Nat.{one-mul, add-mul, suc-mul}
+use Rattle.std.proofs.Math.Nat.{suc-mul}
 use Rattle.part_geometry.specs.Shape.{Shape, IsShape}
 use Rattle.part_geometry.specs.Cells.{cells, send_of}
-use Rattle.part_geometry.specs.Pieces.{pieces, piece_of, first_part, last_part, need_count, needed, Touches}
+use Rattle.part_geometry.specs.Pieces.{pieces, piece_of, first_part, need_count, needed}
 use Rattle.part_geometry.proofs.PieceFacts.{piece_of-holds, Touches-range, need_count-pos}
-use Rattle.part_geometry.proofs.Rows.{IsRow, send-row}
+use Rattle.part_geometry.proofs.Rows.{send-row}
 use Rattle.plain_pair.specs.Record.{Record, Round, no_marks, round_of, is_marked, is_out, round_out, pieces_out}
-use Rattle.plain_pair.specs.Kept.{Kept, has, is_whole, kept_mark, kept_out}
+use Rattle.plain_pair.specs.Kept.{Kept, has, is_whole}
 use Rattle.plain_pair.specs.Sound.{IsSound}
 use Rattle.plain_pair.specs.StandsFor.{StandsFor}
-use Rattle.plain_pair.proofs.Counts.{count-same, count-all, list_all-each}
-use Rattle.plain_pair.proofs.Rounds.{needed_below, is_whole-all}
+use Rattle.plain_pair.proofs.Counts.{list_all-each}
+use Rattle.plain_pair.proofs.Rounds.{needed_below}
 use Rattle.plain_pair.proofs.Touching.{row-hits}
 use Rattle.plain_pair.proofs.Starts.{kept_out-whole}
 
@@ -35,11 +35,11 @@ count-full p (suc n) a full x low high =
     let size = length-range_with_len (a + 1) n in
     elim (cases_Bool (p a)) [
       | inl here ↦
-        let one : cond {A = ℕ} (p a) 1 0 ≡ 1 = ap (λ b. cond b 1 0) here in
-        elim (cases_lt a x) [
-          | inl later ↦ count-full p n (a + 1) (omega arith) x (omega arith) (omega arith)
-          | inr now ↦ ap p (let e : x ≡ a = omega arith in e) ∙ here
-        ]
+          let one : cond {A = ℕ} (p a) 1 0 ≡ 1 = ap (λ b. cond b 1 0) here in
+          elim (cases_lt a x) [
+            | inl later ↦ count-full p n (a + 1) (omega arith) x (omega arith) (omega arith)
+            | inr now ↦ ap p (let e : x ≡ a = omega arith in e) ∙ here
+          ]
       | inr missing ↦ let none : cond {A = ℕ} (p a) 1 0 ≡ 0 = ap (λ b. cond b 1 0) missing in absurd (omega arith)
     ]
 
@@ -102,13 +102,13 @@ marks_now k missing r s st some p inside =
     let low = s.rounds.released in
     elim (cases_lt k.released k.sent) [
       | inl before ↦
-        let e = st.marks k.sent p (omega arith) (omega arith) inside in
-        sym (rw (le-ltb k.sent k.sent (omega arith), eq-eqb k.sent k.sent refl) refl) ∙ e
+          let e = st.marks k.sent p (omega arith) (omega arith) inside in
+          sym (rw (le-ltb k.sent k.sent (omega arith), eq-eqb k.sent k.sent refl) refl) ∙ e
       | inr after ↦
-        let whole = s.done (omega arith) some in
-        let out = sym (kept_out-whole k s.shape (λ q pos in'. whole q in')) ∙ st.out in
-        let full = sum-full (round_out g) (pieces g) r.rounds (round_out-le g) (sym out ∙ ap (λ n. n * pieces g) sent_is) (k.sent - 1) (omega arith) in
-        whole p inside ∙ sym (out_marked g s.shape (round_of r k.sent) full p inside)
+          let whole = s.done (omega arith) some in
+          let out = sym (kept_out-whole k s.shape (λ q pos in'. whole q in')) ∙ st.out in
+          let full = sum-full (round_out g) (pieces g) r.rounds (round_out-le g) (sym out ∙ ap (λ n. n * pieces g) sent_is) (k.sent - 1) (omega arith) in
+          whole p inside ∙ sym (out_marked g s.shape (round_of r k.sent) full p inside)
     ]
 
 -- so the pieces that are out of it are those that are whole

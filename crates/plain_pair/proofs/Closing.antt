@@ -1,8 +1,7 @@
 -- What a closed pair tells is what its records say.
-use Rattle.std.proofs.Common.{◌≡◌, ℕ, ◌+◌, ◌-◌, ◌*◌, ◌≤◌, ◌==◌, if◌then◌else◌, List, length, count_by, ap, sym, ◌∙◌, arith}
+use Rattle.std.proofs.Common.{◌≡◌, ℕ, ◌+◌, ◌-◌, ◌*◌, ◌≤◌, ◌==◌, if◌then◌else◌, List, length, count_by, ap, ◌∙◌, arith}
 use Rattle.part_geometry.proofs.Bounds.{cells-le}
 use Rattle.part_geometry.proofs.PieceFacts.{pieces-le}
-use Rattle.plain_pair.specs.declared.pair.PlainClosed.{PlainClosed}
 use Rattle.plain_pair.specs.Record.{Record}
 use Rattle.plain_pair.specs.Kept.{Kept}
 use Rattle.plain_pair.specs.Sound.{IsSound}

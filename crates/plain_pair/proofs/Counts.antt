@@ -1,7 +1,7 @@
 -- Tests over ranges: how many pass, and whether all do.
-use Rattle.std.proofs.Common.{◌≡◌, ℕ, zero, suc, zero-add, add-zero, ◌+◌, ◌-◌, ◌<◌, ◌≤◌, Bool, true, false, cond, ◌&&◌, not, List, [], ◌∷◌, length, get_or, count_by, replicate, refl, ap, sym, ◌∙◌, arith, inl, inr}
+use Rattle.std.proofs.Common.{◌≡◌, ℕ, zero, suc, ◌+◌, ◌<◌, ◌≤◌, Bool, true, false, cond, count_by, replicate, refl, ap, sym, ◌∙◌, arith, inl, inr}
 use Rattle.std.specs.List.{range_with_len, list_all}
-use Rattle.std.proofs.lemmas.Bool.{cases_lt, and_from, and_left, and_right, and_parts, cases_Bool}
+use Rattle.std.proofs.lemmas.Bool.{cases_lt, and_from, and_left, and_right, and_parts}
 use Rattle.std.proofs.lemmas.List.{get_or-replicate, get_or_past, length-replicate}
 use Rattle.std.proofs.lemmas.List.Sums.{sum_by-cons}
 use Rattle.plain_pair.specs.Kept.{has}

@@ -1,6 +1,6 @@
 -- The first cells of the numbers of a row, found in one pass.
-use Rattle.std.proofs.Common.{◌≡◌, ◌≢◌, ◌⊎◌, ℕ, zero, suc, ◌+◌, ◌-◌, ◌<◌, ◌≤◌, List, [], ◌∷◌, ◌++◌, length, get_or, map, refl, ap, sym, ◌∙◌, arith, inl, inr}
-use Rattle.std.proofs.lemmas.Bool.{cases_lt, cases_order, cases_eq}
+use Rattle.std.proofs.Common.{◌≡◌, ◌≢◌, ℕ, ◌+◌, ◌-◌, ◌<◌, ◌≤◌, List, [], ◌∷◌, ◌++◌, length, get_or, map, refl, ap, sym, ◌∙◌, arith, inl, inr}
+use Rattle.std.proofs.lemmas.Bool.{cases_lt}
 use Rattle.std.proofs.lemmas.List.{length_push, get_or_push, get_or_append_left}
 use Rattle.std.specs.List.{range_with_len}
 use Rattle.std.proofs.lemmas.List.FromFn.{length-map-range_with_len, get_or-map-range_with_len}
@@ -11,7 +11,7 @@ use Rattle.part_geometry.specs.Cells.{cells}
 use Rattle.part_geometry.proofs.Rows.{IsRow, row-le, row-below, send-row, recv-row, piece-row}
 use Rattle.plain_pair.specs.declared.tables.Row.{Row}
 use Rattle.plain_pair.specs.declared.tables.Row.TheVariants.{Send, Recv, Piece}
-use Rattle.plain_pair.specs.Tables.{number, number_in, count, AreCellsOf, AreFirsts}
+use Rattle.plain_pair.specs.Tables.{number, number_in, count, AreFirsts}
 
 -- x is the first of the first i cells with number j
 pub record IsFirst (f : ℕ → ℕ) (i j x : ℕ) : Type 0 where

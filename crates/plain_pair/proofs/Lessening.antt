@@ -1,7 +1,7 @@
 -- One turn of counting down.
-use Rattle.std.proofs.Common.{◌≡◌, ◌⊎◌, ℕ, zero, suc, zero-add, add-zero, ◌+◌, ◌-◌, ◌<◌, ◌≤◌, ◌==◌, Bool, true, false, cond, List, [], length, get_or, set, count_by, refl, ap, sym, ◌∙◌, arith, inl, inr}
+use Rattle.std.proofs.Common.{◌≡◌, ℕ, zero, suc, zero-add, add-zero, ◌+◌, ◌-◌, ◌<◌, ◌≤◌, ◌==◌, Bool, cond, List, [], length, get_or, set, count_by, refl, ap, sym, ◌∙◌, arith, inl, inr}
 use Rattle.std.specs.List.{range_with_len}
-use Rattle.std.proofs.lemmas.Bool.{cases_lt, cases_eq}
+use Rattle.std.proofs.lemmas.Bool.{cases_eq}
 use Rattle.std.proofs.lemmas.List.{length-set, get_or-set_same, get_or-set_other}
 use Rattle.std.proofs.lemmas.List.Sums.{sum_by-cons}
 use Rattle.std.proofs.Math.Nat.{add_assoc, suc-add}
@@ -21,13 +21,13 @@ lessens_more old mid new first i h low inside is =
       size = length-set mid i _ ∙ h.size;
       inside = λ j from to. elim (cases_eq j i) [
         | inl same ↦
-          let e = h.outside i (inr (omega arith)) in
-          rw same (get_or-set_same mid i (get_or mid i 0 - 1) 0 (omega arith) ∙ ap (λ n. n - 1) e)
+            let e = h.outside i (inr (omega arith)) in
+            rw same (get_or-set_same mid i (get_or mid i 0 - 1) 0 (omega arith) ∙ ap (λ n. n - 1) e)
         | inr other ↦ get_or-set_other mid i j _ 0 other ∙ h.inside j from (omega arith)
       ];
       outside = λ j out.
-        get_or-set_other mid i j _ 0 (λ e. elim out [ inl below ↦ absurd (omega arith) | inr above ↦ absurd (omega arith) ])
-        ∙ h.outside j (elim out [ inl below ↦ inl below | inr above ↦ inr (omega arith) ]);
+          get_or-set_other mid i j _ 0 (λ e. elim out [ inl below ↦ absurd (omega arith) | inr above ↦ absurd (omega arith) ])
+          ∙ h.outside j (elim out [ inl below ↦ inl below | inr above ↦ inr (omega arith) ]);
     }
 
 -- what was there is there until its turn
@@ -41,9 +41,9 @@ count-split p (suc m) a n =
     let e : a + 1 + m ≡ a + suc m = omega arith in
     let rest = count-split p m (a + 1) n in
     rw suc-add (sum_by-cons (λ x. cond (p x) 1 0) a (range_with_len (a + 1) (m + n)) ∙ ap (λ k. cond (p a) 1 0 + k) rest
-      ∙ sym (add_assoc (cond (p a) 1 0) (count_by p (range_with_len (a + 1) m)) (count_by p (range_with_len (a + 1 + m) n)))
-      ∙ ap (λ k. k + count_by p (range_with_len (a + 1 + m) n)) (sym (sum_by-cons (λ x. cond (p x) 1 0) a (range_with_len (a + 1) m)))
-      ∙ ap (λ k. count_by p (range_with_len a (suc m)) + count_by p (range_with_len k n)) e)
+    ∙ sym (add_assoc (cond (p a) 1 0) (count_by p (range_with_len (a + 1) m)) (count_by p (range_with_len (a + 1 + m) n)))
+    ∙ ap (λ k. k + count_by p (range_with_len (a + 1 + m) n)) (sym (sum_by-cons (λ x. cond (p x) 1 0) a (range_with_len (a + 1) m)))
+    ∙ ap (λ k. count_by p (range_with_len a (suc m)) + count_by p (range_with_len k n)) e)
 
 pub count-one : (p : ℕ → Bool) (a : ℕ) → count_by p (range_with_len a 1) ≡ cond (p a) 1 0
 count-one p a = sum_by-cons (λ x. cond (p x) 1 0) a [] ∙ add-zero _

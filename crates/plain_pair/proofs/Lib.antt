@@ -14,3 +14,6 @@ pub mod Places
 pub mod Agree
 pub mod Marks
 pub mod Refusals
+pub mod Overs
+pub mod Looks
+pub mod Takes

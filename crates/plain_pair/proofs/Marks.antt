@@ -1,33 +1,33 @@
 -- A mark: what is kept stays sound, stands for the record with the mark, and the pieces that went out are counted.
-use Rattle.std.proofs.Common.{◌≡◌, ◌≢◌, ◌⊎◌, ℕ, zero, suc, zero-add, add-zero, ◌+◌, ◌-◌, ◌*◌, ◌/◌, ◌%◌, ◌<◌, ◌≤◌, ◌==◌, nat_lt, Bool, true, false, cond, ◌&&◌, ◌||◌, not, Some, None, Option, is_some, unwrap_or, List, [], ◌∷◌, length, get_or, set, count_by, sum_by, refl, ap, sym, subst, ◌∙◌, arith, inl, inr}
+use Rattle.std.proofs.Common.{◌≡◌, ◌≢◌, ◌⊎◌, ℕ, ◌+◌, ◌-◌, ◌*◌, ◌/◌, ◌%◌, ◌<◌, ◌≤◌, ◌==◌, nat_lt, Bool, true, false, cond, ◌&&◌, not, Some, Option, is_some, unwrap_or, List, [], length, get_or, set, count_by, refl, ap, sym, ◌∙◌, arith, inl, inr}
 use Rattle.std.specs.FinMap as rounds
 use Rattle.std.specs.Ordering.{nat_cmp, eq_by_cmp}
 use Rattle.std.specs.Cmp.{nat_cmp_total}
-use Rattle.std.specs.List.{range_with_len, list_all}
-use Rattle.std.proofs.lemmas.Bool.{cases_lt, cases_eq, cases_Bool, eq-eqb, ne_eqb, lt-ltb, le-ltb, or_left, or_right, or_cases, and_parts, false≢true, eqb-true, cond-true, cond-false, and_from, and_left, and_right}
+use Rattle.std.specs.List.{range_with_len}
+use Rattle.std.proofs.lemmas.Bool.{cases_lt, cases_eq, cases_Bool, eq-eqb, ne_eqb, lt-ltb, le-ltb, or_left, or_right, or_cases, and_parts, false≢true, eqb-true, cond-true, cond-false, and_from}
 use Rattle.std.proofs.lemmas.List.{length-set, get_or-set_same, get_or-set_other}
 use Rattle.std.proofs.lemmas.List.Sums.{sum_by-set}
 use Rattle.std.proofs.Math.Nat.{div-eq_of_lt-le, div-lt_iff_lt-mul, le-div_iff_mul-le}
 use Rattle.std.proofs.lemmas.Nat.{mul-le, mod_below}
-use Rattle.part_geometry.specs.Shape.{Shape, IsShape, send_total}
+use Rattle.part_geometry.specs.Shape.{Shape, send_total}
 use Rattle.part_geometry.specs.Pieces.{pieces, first_part, need_count, needed}
 use Rattle.plain_pair.specs.Record.{Record, Round, no_marks, send_round, round_of, is_marked, is_out, round_out, pieces_out, byte_at}
 use Rattle.plain_pair.specs.Moves.{marked}
-use Rattle.plain_pair.specs.Kept.{Kept, has, is_whole, kept_mark, kept_byte, was_taken, kept_out, buffer_place}
+use Rattle.plain_pair.specs.Kept.{Kept, has, is_whole, kept_mark, kept_byte, kept_out}
 use Rattle.plain_pair.specs.Sound.{IsSound, HasRounds, unmarked, is_away}
-use Rattle.plain_pair.specs.Marking.{CanMark, Marks, refusal}
-use Rattle.plain_pair.specs.StandsFor.{StandsFor, Follows}
+use Rattle.plain_pair.specs.Marking.{CanMark, Marks}
+use Rattle.plain_pair.specs.StandsFor.{StandsFor}
 use Rattle.plain_pair.specs.Tables.{ArePiecesOf}
-use Rattle.plain_pair.specs.Stored.{Stores, HasRoom, byte_in}
+use Rattle.plain_pair.specs.Stored.{Stores, HasRoom}
 use Rattle.plain_pair.specs.Lessens.{Lessens}
 use Rattle.plain_pair.proofs.Counts.{count-same, count-none}
 use Rattle.plain_pair.proofs.Lessening.{count-split}
 use Rattle.plain_pair.proofs.Outs.{whole-missing}
 use Rattle.plain_pair.proofs.Rounds.{needed_below}
-use Rattle.plain_pair.proofs.Touching.{has-set, has-set_other, has-set_same, unmarked-touched, unmarked-apart}
+use Rattle.plain_pair.proofs.Touching.{has-set, unmarked-touched, unmarked-apart}
 use Rattle.plain_pair.proofs.Agree.{list_all-same, marks_now, out_now}
 use Rattle.plain_pair.proofs.Places.{one_turn, places_apart}
-use Rattle.plain_pair.proofs.Starts.{kept_mark-before, place_below}
+use Rattle.plain_pair.proofs.Starts.{kept_mark-before}
 
 -- the place of the first buffer of the sender's round
 abbrev pub base_of : Kept → ℕ
@@ -59,14 +59,14 @@ mark_stays k p round x buffers inside is =
     elim (or_cases (nat_lt round k.sent) ((round == k.sent) && has k.marked x) is) [
       | inl before ↦ or_left _ _ before
       | inr here ↦
-        let h = and_parts (round == k.sent) (has k.marked x) here in
-        let there : has (set k.marked p true) x ≡ true = has-set k.marked p x inside ∙ cond_true (x == p) (has k.marked x) h.1 in
-        or_right _ _ (and_from (round == k.sent) (has (set k.marked p true) x) h.0 there)
+          let h = and_parts (round == k.sent) (has k.marked x) here in
+          let there : has (set k.marked p true) x ≡ true = has-set k.marked p x inside ∙ cond_true (x == p) (has k.marked x) h.1 in
+          or_right _ _ (and_from (round == k.sent) (has (set k.marked p true) x) h.0 there)
     ]
   where
-  cond_true : (b c : Bool) → c ≡ true → cond b true c ≡ true
-  cond_true true c e = refl
-  cond_true false c e = e
+    cond_true : (b c : Bool) → c ≡ true → cond b true c ≡ true
+    cond_true true c e = refl
+    cond_true false c e = e
 
 same_rounds : (k : Kept) (p : ℕ) (buffers : List (List ℕ)) → HasRounds k → HasRounds (marked_kept k p buffers)
 same_rounds k p buffers r = record {
@@ -102,21 +102,22 @@ sound_mark k missing missing' p bytes buffers first end s m w =
       };
       rounds = same_rounds k p buffers s.rounds;
       counts = λ i inside.
-        let t = w.touched in
-        elim (cases_lt i first) [
-          | inl below ↦ w.lessens.outside i (inl below) ∙ s.counts i inside ∙ sym (unmarked-apart g k.marked p i (t.apart i inside (inl below)))
-          | inr low ↦ elim (cases_lt i end) [
-            | inr above ↦ w.lessens.outside i (inr above) ∙ s.counts i inside ∙ sym (unmarked-apart g k.marked p i (t.apart i inside (inr above)))
-            | inl high ↦
-              let r = t.touch i low high in
-              let less = unmarked-touched g k.marked p i there m.free r.0 r.1 in
-              let was = s.counts i inside in
-              w.lessens.inside i low high ∙ ap (λ n. n - 1) was ∙ (let z : unmarked g k.marked i - 1 ≡ unmarked g (set k.marked p true) i = omega arith in z)
-          ]
-        ];
+          let t = w.touched in
+          elim (cases_lt i first) [
+            | inl below ↦ w.lessens.outside i (inl below) ∙ s.counts i inside ∙ sym (unmarked-apart g k.marked p i (t.apart i inside (inl below)))
+            | inr low ↦ elim (cases_lt i end) [
+              | inr above ↦ w.lessens.outside i (inr above) ∙ s.counts i inside ∙ sym (unmarked-apart g k.marked p i (t.apart i inside (inr above)))
+              | inl high ↦
+                  let r = t.touch i low high in
+                  let less = unmarked-touched g k.marked p i there m.free r.0 r.1 in
+                  let was = s.counts i inside in
+                  w.lessens.inside i low high ∙ ap (λ n. n - 1) was ∙ (let z : unmarked g k.marked i - 1 ≡ unmarked g (set k.marked p true) i = omega arith in z)
+            ]
+          ];
       whole = λ idle. absurd (false≢true (sym idle ∙ m.active));
       done = λ e. absurd (omega arith);
       arrived = λ busy q x inside taken place here. mark_stays k p k.received (x / g.send_bytes) buffers there (s.arrived busy q x inside taken place here);
+      returned = s.returned;
     }
 
 -- the buffers that a mark writes to have room
@@ -134,16 +135,16 @@ room_now k missing p s m x low high =
     s.sizes.full (k.sent % g.depth) (x / g.recv_bytes) place part (elim (cases_Bool (is_away k (k.sent % g.depth) (x / g.recv_bytes))) [
       | inr no_one ↦ no_one
       | inl away ↦
-        let h = and_parts (k.receiving && (k.sent % g.depth == k.received % g.depth)) (has k.taken (x / g.recv_bytes) && not (has k.back (x / g.recv_bytes))) away in
-        let a = and_parts k.receiving (k.sent % g.depth == k.received % g.depth) h.0 in
-        let t = and_parts (has k.taken (x / g.recv_bytes)) (not (has k.back (x / g.recv_bytes))) h.1 in
-        let received = s.rounds.busy a.0 in
-        let ahead = s.rounds.ahead in
-        let same : k.sent ≡ k.received = one_turn k.released k.sent k.received g.depth pos before ahead (omega arith) (omega arith) (eqb-true (k.sent % g.depth) (k.received % g.depth) a.1) in
-        let old = s.arrived a.0 (x / g.recv_bytes) x part t.0 inside refl in
-        let here : x / g.send_bytes ≡ p = div-eq_of_lt-le g.send_bytes low high in
-        let is : has k.marked p ≡ true = ap (has k.marked) (sym here) ∙ sym (kept_mark-here k (x / g.send_bytes)) ∙ ap (λ round. kept_mark k round (x / g.send_bytes)) same ∙ old in
-        absurd (false≢true (sym m.free ∙ is))
+          let h = and_parts (k.receiving && (k.sent % g.depth == k.received % g.depth)) (has k.taken (x / g.recv_bytes) && not (has k.back (x / g.recv_bytes))) away in
+          let a = and_parts k.receiving (k.sent % g.depth == k.received % g.depth) h.0 in
+          let t = and_parts (has k.taken (x / g.recv_bytes)) (not (has k.back (x / g.recv_bytes))) h.1 in
+          let received = s.rounds.busy a.0 in
+          let ahead = s.rounds.ahead in
+          let same : k.sent ≡ k.received = one_turn k.released k.sent k.received g.depth pos before ahead (omega arith) (omega arith) (eqb-true (k.sent % g.depth) (k.received % g.depth) a.1) in
+          let old = s.arrived a.0 (x / g.recv_bytes) x part t.0 inside refl in
+          let here : x / g.send_bytes ≡ p = div-eq_of_lt-le g.send_bytes low high in
+          let is : has k.marked p ≡ true = ap (has k.marked) (sym here) ∙ sym (kept_mark-here k (x / g.send_bytes)) ∙ ap (λ round. kept_mark k round (x / g.send_bytes)) same ∙ old in
+          absurd (false≢true (sym m.free ∙ is))
     ])
 
 -- keys that tie are equal
@@ -207,24 +208,25 @@ whole_after k missing p first end s m t =
     let some = t.some in let within = t.inside in
     let e : pieces g ≡ first + ((end - first) + (pieces g - end)) = omega arith in
     let same : (i : ℕ) → i < pieces g → (i < first) ⊎ (end ≤ i) → is_whole g (set k.marked p true) i ≡ is_whole g k.marked i = λ i inside out.
-        sym (whole-missing g (set k.marked p true) i) ∙ ap (λ n. n == 0) (unmarked-apart g k.marked p i (t.apart i inside out)) ∙ whole-missing g k.marked i in
+    sym (whole-missing g (set k.marked p true) i) ∙ ap (λ n. n == 0) (unmarked-apart g k.marked p i (t.apart i inside out)) ∙ whole-missing g k.marked i in
     rw e (whole_three (is_whole g (set k.marked p true)) (is_whole g k.marked) (λ i. get_or missing i 0 == 1) first (end - first) (pieces g - end)
-      (λ i below. same i (omega arith) (inl below))
-      (λ i low high.
-        let r = t.touch i low (omega arith) in
-        let less = unmarked-touched g k.marked p i there m.free r.0 r.1 in
-        let was = s.counts i (omega arith) in
-        let now : (unmarked g (set k.marked p true) i == 0) ≡ (get_or missing i 0 == 1) = one_less (unmarked g (set k.marked p true) i) (get_or missing i 0) (omega arith) in
-        (sym (whole-missing g (set k.marked p true) i) ∙ now,
-          sym (whole-missing g k.marked i) ∙ ne_eqb (unmarked g k.marked i) 0 (λ z. omega arith)))
-      (λ i low high. same i (omega arith) (inr (omega arith))))
+    (λ i below. same i (omega arith) (inl below))
+    (λ i low high.
+    let r = t.touch i low (omega arith) in
+    let less = unmarked-touched g k.marked p i there m.free r.0 r.1 in
+    let was = s.counts i (omega arith) in
+    let now : (unmarked g (set k.marked p true) i == 0) ≡ (get_or missing i 0 == 1) = one_less (unmarked g (set k.marked p true) i) (get_or missing i 0) (omega arith) in (
+      sym (whole-missing g (set k.marked p true) i) ∙ now,
+      sym (whole-missing g k.marked i) ∙ ne_eqb (unmarked g k.marked i) 0 (λ z. omega arith),
+    ))
+    (λ i low high. same i (omega arith) (inr (omega arith))))
   where
-  one_less : (a b : ℕ) → a + 1 ≡ b → (a == 0) ≡ (b == 1)
-  one_less a b is =
-      elim (cases_eq a 0) [
-        | inl none ↦ eq-eqb a 0 none ∙ sym (eq-eqb b 1 (omega arith))
-        | inr some ↦ ne_eqb a 0 some ∙ sym (ne_eqb b 1 (λ e. some (omega arith)))
-      ]
+    one_less : (a b : ℕ) → a + 1 ≡ b → (a == 0) ≡ (b == 1)
+    one_less a b is =
+        elim (cases_eq a 0) [
+          | inl none ↦ eq-eqb a 0 none ∙ sym (eq-eqb b 1 (omega arith))
+          | inr some ↦ ne_eqb a 0 some ∙ sym (ne_eqb b 1 (λ e. some (omega arith)))
+        ]
 
 -- some of each piece that the partition touches is missing
 pub some_missing : (k : Kept) (missing : List ℕ) (p first end : ℕ) → IsSound k missing → CanMark k p → ArePiecesOf k.shape p first end
@@ -262,8 +264,8 @@ out_marked_now k missing r p bytes s m st i inside =
     let there : p < length k.marked = (let e = s.sizes.marked_size in let j = m.inside in omega arith) in
     list_all-same (is_marked (rounds.insert (round_of r k.sent) p bytes)) (has (set k.marked p true)) (first_part k.shape i) (need_count k.shape i)
     (λ x low high. is_marked-insert (round_of r k.sent) p x bytes
-      ∙ ap (cond (x == p) true) (sym (marks_now k missing r s st (s.rounds.begun m.active) x (needed_below k.shape s.shape i x inside high low)))
-      ∙ sym (has-set k.marked p x there))
+    ∙ ap (cond (x == p) true) (sym (marks_now k missing r s st (s.rounds.begun m.active) x (needed_below k.shape s.shape i x inside high low)))
+    ∙ sym (has-set k.marked p x there))
 
 pub pieces_out-marked : (k : Kept) (missing : List ℕ) (r : Record) (p : ℕ) (bytes : List ℕ) (first end : ℕ) → IsSound k missing → CanMark k p → StandsFor k r
     → ArePiecesOf k.shape p first end → pieces_out k.shape (marked r p bytes) ≡ pieces_out k.shape r + sent_by missing first end
@@ -276,10 +278,10 @@ pieces_out-marked k missing r p bytes first end s m st t =
     let old = count-same (is_out g (round_of r k.sent)) (is_whole g k.marked) 0 (pieces g) (λ i low high. sym (out_now k missing r s st some i (omega arith))) in
     let new = count-same (is_out g (rounds.insert (round_of r k.sent) p bytes)) (is_whole g (set k.marked p true)) 0 (pieces g) (λ i low high. out_marked_now k missing r p bytes s m st i (omega arith)) in
     let sum : pieces_out g (marked r p bytes) + round_out g (round_of r (send_round r)) ≡ pieces_out g r + round_out g (rounds.insert (round_of r (send_round r)) p bytes) =
-        sum_by-set (round_out g) r.rounds (send_round r - 1) (rounds.insert (round_of r (send_round r)) p bytes) no_marks (omega arith) in
+    sum_by-set (round_out g) r.rounds (send_round r - 1) (rounds.insert (round_of r (send_round r)) p bytes) no_marks (omega arith) in
     let before : round_out g (round_of r (send_round r)) ≡ count_by (is_whole g k.marked) (range_with_len 0 (pieces g)) = ap (round_out g) last ∙ old in
     let after : round_out g (rounds.insert (round_of r (send_round r)) p bytes) ≡ count_by (is_whole g (set k.marked p true)) (range_with_len 0 (pieces g)) =
-        ap (λ z. round_out g (rounds.insert z p bytes)) last ∙ new in
+    ap (λ z. round_out g (rounds.insert z p bytes)) last ∙ new in
     let count = whole_after k missing p first end s m t in
     omega arith
 
@@ -291,9 +293,9 @@ byte_at-marked g round p x bytes =
     ap (λ o. get_or (unwrap_or o []) (x % g.send_bytes) 0) (get_marked round p (x / g.send_bytes) bytes)
     ∙ chosen (x / g.send_bytes == p) bytes (rounds.get round (x / g.send_bytes)) (x % g.send_bytes)
   where
-  chosen : (b : Bool) (bytes : List ℕ) (o : Option (List ℕ)) (i : ℕ) → get_or (unwrap_or (cond b (Some bytes) o) []) i 0 ≡ cond b (get_or bytes i 0) (get_or (unwrap_or o []) i 0)
-  chosen true bytes o i = refl
-  chosen false bytes o i = refl
+    chosen : (b : Bool) (bytes : List ℕ) (o : Option (List ℕ)) (i : ℕ) → get_or (unwrap_or (cond b (Some bytes) o) []) i 0 ≡ cond b (get_or bytes i 0) (get_or (unwrap_or o []) i 0)
+    chosen true bytes o i = refl
+    chosen false bytes o i = refl
 
 -- the byte that is kept after the mark: the mark's, at its places of the sender's round, and else as before
 kept_byte-marked : (k : Kept) (missing missing' : List ℕ) (p : ℕ) (bytes : List ℕ) (buffers : List (List ℕ)) (first end : ℕ) → IsSound k missing → CanMark k p
@@ -304,16 +306,16 @@ kept_byte-marked k missing missing' p bytes buffers first end s m w x inside =
     let pos : 0 < g.send_bytes = omega (arith, s.shape.send_bytes.0) in
     elim (cases_eq (x / g.send_bytes) p) [
       | inl here ↦
-        let at : x / g.send_bytes * g.send_bytes ≡ p * g.send_bytes = ap (λ n. n * g.send_bytes) here in
-        let next : (p + 1) * g.send_bytes ≡ p * g.send_bytes + g.send_bytes = omega arith in
-        let offset : x - p * g.send_bytes ≡ x % g.send_bytes = omega arith in
-        w.stores.here x (omega arith) (omega arith) ∙ ap (λ i. get_or bytes i 0) offset ∙ sym (cond-true (x / g.send_bytes == p) _ _ (eq-eqb _ p here))
+          let at : x / g.send_bytes * g.send_bytes ≡ p * g.send_bytes = ap (λ n. n * g.send_bytes) here in
+          let next : (p + 1) * g.send_bytes ≡ p * g.send_bytes + g.send_bytes = omega arith in
+          let offset : x - p * g.send_bytes ≡ x % g.send_bytes = omega arith in
+          w.stores.here x (omega arith) (omega arith) ∙ ap (λ i. get_or bytes i 0) offset ∙ sym (cond-true (x / g.send_bytes == p) _ _ (eq-eqb _ p here))
       | inr other ↦
-        let out : (x < p * g.send_bytes) ⊎ ((p + 1) * g.send_bytes ≤ x) = elim (cases_lt (x / g.send_bytes) p) [
-          | inl less ↦ inl ((div-lt_iff_lt-mul {k = g.send_bytes} {x = x} {y = p} pos).0 less)
-          | inr more ↦ inr ((le-div_iff_mul-le {k = g.send_bytes} {x = p + 1} {y = x} pos).0 (omega arith))
-        ] in
-        w.stores.elsewhere x inside out ∙ sym (cond-false (x / g.send_bytes == p) _ _ (ne_eqb _ p other))
+          let out : (x < p * g.send_bytes) ⊎ ((p + 1) * g.send_bytes ≤ x) = elim (cases_lt (x / g.send_bytes) p) [
+            | inl less ↦ inl ((div-lt_iff_lt-mul {k = g.send_bytes} {x = x} {y = p} pos).0 less)
+            | inr more ↦ inr ((le-div_iff_mul-le {k = g.send_bytes} {x = p + 1} {y = x} pos).0 (omega arith))
+          ] in
+          w.stores.elsewhere x inside out ∙ sym (cond-false (x / g.send_bytes == p) _ _ (ne_eqb _ p other))
     ]
 
 kept_byte-other : (k : Kept) (missing missing' : List ℕ) (p : ℕ) (bytes : List ℕ) (buffers : List (List ℕ)) (first end : ℕ) → IsSound k missing → CanMark k p
@@ -346,39 +348,39 @@ stands_mark k missing missing' r p bytes buffers first end s m w st =
       back = st.back;
       out = kept_out-marked k missing p buffers first end s m w.touched ∙ ap (λ n. n + sent_by missing first end) st.out ∙ sym (pieces_out-marked k missing r p bytes first end s m st w.touched);
       marks = λ round x later upto inside.
-        elim (cases_lt round k.sent) [
-          | inl before ↦
-            let was = st.marks round x later (omega arith) inside in
-            kept_mark-before (marked_kept k p buffers) round x before ∙ sym (kept_mark-before k round x before) ∙ was
-            ∙ ap (λ z. is_marked z x) (sym (round_of-marked_before r p bytes round (omega arith) (omega arith)))
-          | inr now ↦
-            let here : round ≡ k.sent = omega arith in
-            let last = round_of-marked_last r p bytes round (omega arith) (omega arith) in
-            ap (λ n. kept_mark (marked_kept k p buffers) n x) here ∙ kept_mark-here (marked_kept k p buffers) x ∙ has-set k.marked p x there
-            ∙ ap (cond (x == p) true) (marks_now k missing r s st (omega arith) x inside ∙ ap (λ n. is_marked (round_of r n) x) (sym here))
-            ∙ sym (is_marked-insert (round_of r round) p x bytes) ∙ ap (λ z. is_marked z x) (sym last)
-        ];
+          elim (cases_lt round k.sent) [
+            | inl before ↦
+                let was = st.marks round x later (omega arith) inside in
+                kept_mark-before (marked_kept k p buffers) round x before ∙ sym (kept_mark-before k round x before) ∙ was
+                ∙ ap (λ z. is_marked z x) (sym (round_of-marked_before r p bytes round (omega arith) (omega arith)))
+            | inr now ↦
+                let here : round ≡ k.sent = omega arith in
+                let last = round_of-marked_last r p bytes round (omega arith) (omega arith) in
+                ap (λ n. kept_mark (marked_kept k p buffers) n x) here ∙ kept_mark-here (marked_kept k p buffers) x ∙ has-set k.marked p x there
+                ∙ ap (cond (x == p) true) (marks_now k missing r s st (omega arith) x inside ∙ ap (λ n. is_marked (round_of r n) x) (sym here))
+                ∙ sym (is_marked-insert (round_of r round) p x bytes) ∙ ap (λ z. is_marked z x) (sym last)
+          ];
       bytes = λ round x later upto inside is free.
-        elim (cases_lt round k.sent) [
-          | inl before ↦
-            let e = round_of-marked_before r p bytes round (omega arith) (omega arith) in
-            kept_byte-other k missing missing' p bytes buffers first end s m w round x (omega arith) before inside
-            ∙ st.bytes round x later (omega arith) inside (ap (λ z. is_marked z (x / g.send_bytes)) (sym e) ∙ is) free ∙ ap (λ z. byte_at g z x) (sym e)
-          | inr now ↦
-            let here : round ≡ k.sent = omega arith in
-            let last = round_of-marked_last r p bytes round (omega arith) (omega arith) in
-            ap (λ n. kept_byte (marked_kept k p buffers) n x) here ∙ kept_byte-marked k missing missing' p bytes buffers first end s m w x inside
-            ∙ both (x / g.send_bytes == p) _ _ _ (λ other.
-              let old : is_marked (round_of r round) (x / g.send_bytes) ≡ true =
-                  sym (ap (λ b. cond b true (is_marked (round_of r round) (x / g.send_bytes))) other) ∙ sym (is_marked-insert (round_of r round) p (x / g.send_bytes) bytes) ∙ ap (λ z. is_marked z (x / g.send_bytes)) (sym last) ∙ is in
-              ap (λ n. kept_byte k n x) (sym here) ∙ st.bytes round x later (omega arith) inside old free)
-            ∙ sym (byte_at-marked g (round_of r round) p x bytes) ∙ ap (λ z. byte_at g z x) (sym last)
-        ];
+          elim (cases_lt round k.sent) [
+            | inl before ↦
+                let e = round_of-marked_before r p bytes round (omega arith) (omega arith) in
+                kept_byte-other k missing missing' p bytes buffers first end s m w round x (omega arith) before inside
+                ∙ st.bytes round x later (omega arith) inside (ap (λ z. is_marked z (x / g.send_bytes)) (sym e) ∙ is) free ∙ ap (λ z. byte_at g z x) (sym e)
+            | inr now ↦
+                let here : round ≡ k.sent = omega arith in
+                let last = round_of-marked_last r p bytes round (omega arith) (omega arith) in
+                ap (λ n. kept_byte (marked_kept k p buffers) n x) here ∙ kept_byte-marked k missing missing' p bytes buffers first end s m w x inside
+                ∙ both (x / g.send_bytes == p) _ _ _ (λ other.
+                let old : is_marked (round_of r round) (x / g.send_bytes) ≡ true =
+                sym (ap (λ b. cond b true (is_marked (round_of r round) (x / g.send_bytes))) other) ∙ sym (is_marked-insert (round_of r round) p (x / g.send_bytes) bytes) ∙ ap (λ z. is_marked z (x / g.send_bytes)) (sym last) ∙ is in
+                ap (λ n. kept_byte k n x) (sym here) ∙ st.bytes round x later (omega arith) inside old free)
+                ∙ sym (byte_at-marked g (round_of r round) p x bytes) ∙ ap (λ z. byte_at g z x) (sym last)
+          ];
     }
   where
-  both : (b : Bool) (x y z : ℕ) → (b ≡ false → y ≡ z) → cond b x y ≡ cond b x z
-  both true x y z e = refl
-  both false x y z e = e refl
+    both : (b : Bool) (x y z : ℕ) → (b ≡ false → y ≡ z) → cond b x y ≡ cond b x z
+    both true x y z e = refl
+    both false x y z e = e refl
 
 -- the mark as it is answered
 pub marks : (k : Kept) (missing missing' : List ℕ) (p : ℕ) (bytes : List ℕ) (buffers : List (List ℕ)) (first end sent : ℕ) → IsSound k missing → CanMark k p

@@ -1,5 +1,5 @@
 -- How many send partitions a piece touches, from the first cells of the pieces.
-use Rattle.std.proofs.Common.{◌≡◌, ℕ, ◌+◌, ◌-◌, ◌<◌, ◌≤◌, List, [], ◌∷◌, ◌++◌, length, get_or, map, refl, ap, sym, ◌∙◌, arith}
+use Rattle.std.proofs.Common.{◌≡◌, ℕ, ◌+◌, ◌-◌, ◌<◌, ◌≤◌, List, [], ◌∷◌, ◌++◌, length, get_or, map, refl, ap, arith}
 use Rattle.std.specs.List.{range_with_len}
 use Rattle.std.proofs.lemmas.List.FromFn.{map-range_with_len_more}
 use Rattle.part_geometry.specs.declared.walk.Cell.{Cell}
@@ -7,10 +7,10 @@ use Rattle.part_geometry.specs.Shape.{Shape, IsShape}
 use Rattle.part_geometry.specs.Cells.{cells, send_of}
 use Rattle.part_geometry.specs.Pieces.{pieces, first_cell, last_cell, first_part, last_part, piece_of, need_count}
 use Rattle.part_geometry.specs.Walk.{cell_at}
-use Rattle.part_geometry.proofs.PieceFacts.{piece-ordered, piece_of-inside, piece_of-holds, need_count-pos, need_count-le}
+use Rattle.part_geometry.proofs.PieceFacts.{piece-ordered, piece_of-inside, piece_of-holds, need_count-pos}
 use Rattle.part_geometry.proofs.Parts.{send-mono, send-below}
 use Rattle.plain_pair.specs.declared.tables.Row.TheVariants.{Piece}
-use Rattle.plain_pair.specs.Tables.{AreCellsOf, AreFirsts, count}
+use Rattle.plain_pair.specs.Tables.{AreCellsOf, AreFirsts}
 use Rattle.plain_pair.proofs.Firsts.{cells_length, cell_there}
 
 -- the cells numbered i by piece are those of piece i

@@ -1,10 +1,10 @@
 -- How many pieces are out, by what is missing of each.
-use Rattle.std.proofs.Common.{◌≡◌, ℕ, zero, suc, add-zero, ◌+◌, ◌-◌, ◌*◌, ◌<◌, ◌≤◌, Bool, true, false, cond, ◌&&◌, not, ◌==◌, if◌then◌else◌, List, [], ◌∷◌, length, get_or, count_by, refl, ap, sym, ◌∙◌, add-one, arith, inl, inr}
+use Rattle.std.proofs.Common.{◌≡◌, ℕ, zero, suc, add-zero, ◌+◌, ◌-◌, ◌*◌, ◌<◌, Bool, cond, not, ◌==◌, if◌then◌else◌, List, [], ◌∷◌, length, get_or, count_by, refl, ap, sym, ◌∙◌, arith, inl, inr}
 use Rattle.std.specs.List.{range_with_len, list_all}
-use Rattle.std.proofs.lemmas.Bool.{cases_Bool, ne_eqb, eq-eqb}
+use Rattle.std.proofs.lemmas.Bool.{cases_Bool, ne_eqb}
 use Rattle.std.proofs.lemmas.List.Sums.{sum_by-cons}
 use Rattle.part_geometry.specs.Shape.{Shape}
-use Rattle.part_geometry.specs.Pieces.{pieces, needed, first_part, need_count}
+use Rattle.part_geometry.specs.Pieces.{needed, first_part, need_count}
 use Rattle.plain_pair.specs.Kept.{Kept, has, is_whole, kept_out}
 use Rattle.plain_pair.specs.Sound.{IsSound, unmarked}
 

@@ -1,10 +1,9 @@
 -- A mark is refused by what is kept exactly as by the record.
-use Rattle.std.proofs.Common.{◌≡◌, ℕ, ◌+◌, ◌-◌, ◌<◌, ◌≤◌, ◌==◌, nat_lt, Bool, true, false, cond, ◌&&◌, not, Ok, Err, Result, List, length, refl, ap, sym, ◌∙◌, arith, inl, inr}
-use Rattle.std.proofs.lemmas.Bool.{cases_Bool, eqb-true, eq-eqb, ltb-true, and_parts, and_from, cond-true, cond-false, false≢true}
+use Rattle.std.proofs.Common.{◌≡◌, ℕ, ◌-◌, ◌<◌, ◌==◌, nat_lt, true, ◌&&◌, Ok, Err, Result, List, length, refl, ap, sym, ◌∙◌, inl, inr}
+use Rattle.std.proofs.lemmas.Bool.{cases_Bool, eqb-true, ltb-true, and_parts}
 use Rattle.part_geometry.specs.declared.answers.Marked.{Marked}
 use Rattle.part_geometry.specs.Shape.{Shape}
 use Rattle.plain_pair.specs.declared.answers.PlainRefusal.{PlainRefusal}
-use Rattle.plain_pair.specs.declared.answers.PlainRefusal.TheVariants.{BadPartition, BadLength, NotActive, AlreadyMarked}
 use Rattle.plain_pair.specs.Record.{Record, send_round, round_of, is_marked, pieces_out}
 use Rattle.plain_pair.specs.Moves.{marked, pready_answer, after_pready}
 use Rattle.plain_pair.specs.Kept.{Kept, has}
@@ -28,9 +27,9 @@ same_refusal k missing r round p size s st =
       | inl inside ↦ elim (cases_Bool (k.sending && (round == k.sent))) [
         | inr idle ↦ rw (← test, idle) refl
         | inl active ↦
-          let h = and_parts k.sending (round == k.sent) active in
-          let e = last_test k missing r round p s st (ltb-true _ _ inside) h.0 (eqb-true _ _ h.1) in
-          rw (← test, e) refl
+            let h = and_parts k.sending (round == k.sent) active in
+            let e = last_test k missing r round p s st (ltb-true _ _ inside) h.0 (eqb-true _ _ h.1) in
+            rw (← test, e) refl
       ]
     ]
 

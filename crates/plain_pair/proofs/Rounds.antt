@@ -1,13 +1,10 @@
 -- The rounds of a record, and what is out of them.
-use Rattle.std.proofs.Common.{◌≡◌, ℕ, zero, suc, add-zero, ◌+◌, ◌-◌, ◌*◌, ◌<◌, ◌≤◌, Bool, true, false, cond, ◌&&◌, ◌||◌, not, nat_lt, ◌==◌, List, [], ◌∷◌, ◌++◌, length, get_or, set, count_by, replicate, is_some, refl, ap, sym, subst, ◌∙◌, arith, inl, inr}
+use Rattle.std.proofs.Common.{◌≡◌, ℕ, add-zero, ◌+◌, ◌-◌, ◌<◌, ◌≤◌, Bool, true, false, List, [], ◌∷◌, ◌++◌, length, get_or, replicate, is_some, ap, arith}
 use Rattle.std.specs.FinMap as rounds
 use Rattle.std.specs.Ordering.{nat_cmp}
-use Rattle.std.specs.List.{range_with_len, list_all}
-use Rattle.std.proofs.lemmas.Bool.{cases_lt, cases_Bool, eq-eqb, ne_eqb, lt-ltb, le-ltb, or_left}
-use Rattle.std.proofs.lemmas.List.{get_or-replicate, get_or_past, length-replicate, length_push, get_or_push, get_or_append_left}
+use Rattle.std.proofs.lemmas.List.{get_or_push, get_or_append_left}
 use Rattle.std.proofs.lemmas.List.Sums.{sum_by_push}
 use Rattle.part_geometry.specs.Shape.{Shape, IsShape}
-use Rattle.part_geometry.specs.Cells.{cells, send_of}
 use Rattle.part_geometry.specs.Pieces.{pieces, need_count, needed, first_part, last_part, first_cell, last_cell}
 use Rattle.part_geometry.proofs.PieceFacts.{need_count-pos, piece-ordered}
 use Rattle.part_geometry.proofs.Parts.{send-below}

@@ -1,9 +1,9 @@
 -- Starting a side: what is kept stays sound, and stands for the record with the start.
-use Rattle.std.proofs.Common.{◌≡◌, ◌≢◌, ◌⊎◌, ℕ, Ok, Err, Result, zero, suc, add-zero, ◌+◌, ◌-◌, ◌*◌, ◌/◌, ◌<◌, ◌≤◌, Bool, true, false, cond, ◌&&◌, ◌||◌, not, nat_lt, ◌==◌, if◌then◌else◌, List, [], ◌∷◌, ◌++◌, length, get_or, map, count_by, replicate, refl, ap, sym, subst, ◌∙◌, arith, inl, inr}
+use Rattle.std.proofs.Common.{◌≡◌, ◌≢◌, ℕ, Ok, Err, add-zero, ◌+◌, ◌-◌, ◌*◌, ◌/◌, ◌<◌, ◌≤◌, Bool, true, false, not, ◌==◌, List, [], length, map, replicate, refl, ap, sym, ◌∙◌, arith, inl, inr}
 use Rattle.std.specs.FinSet as parts
 use Rattle.std.specs.Ordering.{nat_cmp}
 use Rattle.std.specs.List.{range_with_len}
-use Rattle.std.proofs.lemmas.Bool.{eqb-false, cond-true, cond-false, cases_lt, cases_Bool, eq-eqb, ne_eqb, lt-ltb, le-ltb, or_left, and_left, and_right, false≢true, both_ways}
+use Rattle.std.proofs.lemmas.Bool.{eqb-false, cond-true, cond-false, cases_lt, cases_Bool, eq-eqb, ne_eqb, lt-ltb, le-ltb, or_left, and_left, and_right, false≢true}
 use Rattle.std.proofs.lemmas.List.{length-replicate, length_push, get_or-replicate}
 use Rattle.std.proofs.lemmas.Nat.{mul-le}
 use Rattle.std.proofs.Math.Nat.{one-mul, zero-mul, add-mul}
@@ -11,10 +11,10 @@ use Rattle.std.proofs.lemmas.List.FromFn.{length-map-range_with_len, get_or-map-
 use Rattle.part_geometry.specs.declared.answers.StartFault.TheVariants.{RoundsSpent}
 use Rattle.part_geometry.specs.Shape.{Shape, IsShape}
 use Rattle.part_geometry.specs.Pieces.{pieces, need_count, needed, first_part}
-use Rattle.plain_pair.specs.Record.{Record, no_marks, no_parts, round_of, is_marked, pieces_out, byte_at, first_record}
+use Rattle.plain_pair.specs.Record.{Record, no_marks, is_marked, pieces_out, byte_at, first_record}
 use Rattle.plain_pair.specs.Moves.{start_answer, start_send_answer, after_start_send, start_recv_answer, after_start_recv, started_send, started_recv}
-use Rattle.plain_pair.specs.Kept.{Kept, has, kept_mark, kept_byte, was_taken, kept_out, is_whole}
-use Rattle.plain_pair.specs.Sound.{IsSound, unmarked, is_away}
+use Rattle.plain_pair.specs.Kept.{Kept, has, kept_mark, was_taken, kept_out, is_whole}
+use Rattle.plain_pair.specs.Sound.{IsSound, unmarked}
 use Rattle.plain_pair.specs.StandsFor.{StandsFor, Follows}
 use Rattle.plain_pair.proofs.Counts.{has-none, count-all, count-none}
 use Rattle.plain_pair.proofs.Rounds.{is_marked-none, round_of-old, round_of-new, pieces_out-new, is_whole-none, is_whole-all}
@@ -74,6 +74,7 @@ sound_start_send k missing needs s idle more is =
       arrived = λ busy q x inside taken place there.
           let old = s.arrived busy q x inside taken place there in
           kept_mark-before (sending_kept k) k.received _ (let h = kept_mark-within k k.received _ old in omega arith);
+      returned = s.returned;
     }
 
 -- a round after the released one is at least 1
@@ -226,6 +227,7 @@ sound_first g v needs is = record {
   whole = λ e some. absurd (omega arith);
   done = λ e some. absurd (omega arith);
   arrived = λ e. absurd (false≢true e);
+  returned = λ q inside e. absurd (false≢true (sym (has-none g.recv_parts q) ∙ e));
 }
 
 pub stands_first : (g : Shape) (buffers : List (List ℕ)) → StandsFor (first_kept g buffers) first_record

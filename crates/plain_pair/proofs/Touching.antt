@@ -1,20 +1,19 @@
 -- The pieces that a send partition touches, and what a mark changes of what is missing.
-use Rattle.std.proofs.Common.{◌≡◌, ◌≢◌, ◌⊎◌, ℕ, zero, suc, zero-add, add-zero, ◌+◌, ◌-◌, ◌*◌, ◌<◌, ◌≤◌, ◌==◌, Bool, true, false, cond, not, List, [], length, get_or, set, count_by, refl, ap, sym, ◌∙◌, arith, inl, inr}
-use Rattle.std.specs.List.{range_with_len, list_all}
-use Rattle.std.proofs.lemmas.Bool.{cases_lt, cases_eq, cases_Bool, false≢true, eq-eqb, ne_eqb}
-use Rattle.std.proofs.lemmas.List.{length-set, get_or-set_same, get_or-set_other}
+use Rattle.std.proofs.Common.{◌≡◌, ◌≢◌, ◌⊎◌, ℕ, zero, suc, add-zero, ◌+◌, ◌-◌, ◌<◌, ◌≤◌, ◌==◌, Bool, true, false, cond, not, List, length, set, count_by, ap, sym, ◌∙◌, arith, inl, inr}
+use Rattle.std.specs.List.{range_with_len}
+use Rattle.std.proofs.lemmas.Bool.{cases_lt, cases_eq, eq-eqb, ne_eqb}
+use Rattle.std.proofs.lemmas.List.{get_or-set_same, get_or-set_other}
 use Rattle.std.proofs.lemmas.List.Sums.{sum_by-cons}
 use Rattle.part_geometry.specs.Shape.{Shape, IsShape}
-use Rattle.part_geometry.specs.Cells.{cells, send_of}
-use Rattle.part_geometry.specs.Pieces.{pieces, piece_of, first_cell, last_cell, first_part, last_part, need_count, needed, Touches}
+use Rattle.part_geometry.specs.Cells.{cells}
+use Rattle.part_geometry.specs.Pieces.{pieces, piece_of, first_cell, last_cell, first_part, need_count, needed}
 use Rattle.part_geometry.proofs.PieceFacts.{piece-ordered, piece_of-inside, piece_of-holds, Touches-range, need_count-pos}
 use Rattle.part_geometry.proofs.Rows.{IsRow, row-le, row-below, piece-row}
 use Rattle.plain_pair.specs.declared.tables.Row.TheVariants.{Send}
 use Rattle.plain_pair.specs.Tables.{AreCellsOf, ArePiecesOf}
-use Rattle.plain_pair.specs.Kept.{has, is_whole}
+use Rattle.plain_pair.specs.Kept.{has}
 use Rattle.plain_pair.specs.Sound.{unmarked}
-use Rattle.plain_pair.proofs.Counts.{count-same, count-none, list_all-range, list_all-not}
-use Rattle.plain_pair.proofs.Outs.{whole-missing}
+use Rattle.plain_pair.proofs.Counts.{count-same}
 
 -- a row takes each number between two of its numbers
 pub row-hits : (f : ℕ → ℕ) (n count : ℕ) → IsRow f n count → (c k j : ℕ) → c + k < n → f c ≤ j → j ≤ f (c + k) → (d : ℕ) × (c ≤ d) × (d ≤ c + k) × (f d ≡ j)
@@ -23,12 +22,12 @@ row-hits f n count row c zero j inside low high =
 row-hits f n count row c (suc k) j inside low high =
     elim (cases_lt (f (c + k)) j) [
       | inl above ↦
-        let step = row.step (c + k) (omega arith) in
-        let e : f (c + k + 1) ≡ f (c + suc k) = ap f (let z : c + k + 1 ≡ c + suc k = omega arith in z) in
-        (c + suc k, omega arith, omega arith, omega arith)
+          let step = row.step (c + k) (omega arith) in
+          let e : f (c + k + 1) ≡ f (c + suc k) = ap f (let z : c + k + 1 ≡ c + suc k = omega arith in z) in
+          (c + suc k, omega arith, omega arith, omega arith)
       | inr below ↦
-        let h = row-hits f n count row c k j (omega arith) low below in
-        (h.0, h.1, (let u = h.2 in omega arith), h.3)
+          let h = row-hits f n count row c k j (omega arith) low below in
+          (h.0, h.1, (let u = h.2 in omega arith), h.3)
     ]
 
 -- the pieces of a send partition, by its cells
@@ -42,35 +41,35 @@ pieces_of_part g v p first next is =
       some = omega arith;
       inside = omega arith;
       touch = λ i low high.
-        let e : first + (next - 1 - first) ≡ next - 1 = omega arith in
-        let z : piece_of g (first + (next - 1 - first)) ≡ piece_of g (next - 1) = ap (piece_of g) e in
-        let d = row-hits (piece_of g) (cells g) (pieces g) row first (next - 1 - first) i (omega arith) low (omega arith) in
-        let du = d.2 in
-        let h = piece_of-holds g d.0 (omega arith) in
-        let n = is.numbered d.0 d.1 (omega arith) in
-        let hl = h.low in let hh = h.high in
-        let fl : first_cell g (piece_of g d.0) ≡ first_cell g i = ap (first_cell g) d.3 in
-        let ll : last_cell g (piece_of g d.0) ≡ last_cell g i = ap (last_cell g) d.3 in
-        let r = (Touches-range g v i p (omega arith)).0 (d.0, omega arith, omega arith, n) in
-        let pos = need_count-pos g v i (omega arith) in
-        (r.0, (let u = r.1 in omega arith));
+          let e : first + (next - 1 - first) ≡ next - 1 = omega arith in
+          let z : piece_of g (first + (next - 1 - first)) ≡ piece_of g (next - 1) = ap (piece_of g) e in
+          let d = row-hits (piece_of g) (cells g) (pieces g) row first (next - 1 - first) i (omega arith) low (omega arith) in
+          let du = d.2 in
+          let h = piece_of-holds g d.0 (omega arith) in
+          let n = is.numbered d.0 d.1 (omega arith) in
+          let hl = h.low in let hh = h.high in
+          let fl : first_cell g (piece_of g d.0) ≡ first_cell g i = ap (first_cell g) d.3 in
+          let ll : last_cell g (piece_of g d.0) ≡ last_cell g i = ap (last_cell g) d.3 in
+          let r = (Touches-range g v i p (omega arith)).0 (d.0, omega arith, omega arith, n) in
+          let pos = need_count-pos g v i (omega arith) in
+          (r.0, (let u = r.1 in omega arith));
       apart = λ i inside out.
-        let pos = need_count-pos g v i inside in
-        elim (cases_lt p (first_part g i)) [
-          | inl below ↦ inl below
-          | inr low ↦ elim (cases_lt p (first_part g i + need_count g i)) [
-            | inr above ↦ inr above
-            | inl high ↦
-              let t = (Touches-range g v i p inside).1 low (omega arith) in
-              let o = piece-ordered g i inside in
-              let here = is.all t.0 (let a = t.2 in let b = o.1 in omega arith) t.3 in
-              let piece = piece_of-inside g i t.0 inside t.1 t.2 in
-              let hl = here.0 in let hh = here.1 in
-              let low' = row-le (piece_of g) (cells g) (pieces g) row first t.0 hl (omega arith) in
-              let high' = row-le (piece_of g) (cells g) (pieces g) row t.0 (next - 1) (omega arith) (omega arith) in
-              elim out [ inl b ↦ absurd (omega arith) | inr a ↦ absurd (omega arith) ]
-          ]
-        ];
+          let pos = need_count-pos g v i inside in
+          elim (cases_lt p (first_part g i)) [
+            | inl below ↦ inl below
+            | inr low ↦ elim (cases_lt p (first_part g i + need_count g i)) [
+              | inr above ↦ inr above
+              | inl high ↦
+                  let t = (Touches-range g v i p inside).1 low (omega arith) in
+                  let o = piece-ordered g i inside in
+                  let here = is.all t.0 (let a = t.2 in let b = o.1 in omega arith) t.3 in
+                  let piece = piece_of-inside g i t.0 inside t.1 t.2 in
+                  let hl = here.0 in let hh = here.1 in
+                  let low' = row-le (piece_of g) (cells g) (pieces g) row first t.0 hl (omega arith) in
+                  let high' = row-le (piece_of g) (cells g) (pieces g) row t.0 (next - 1) (omega arith) (omega arith) in
+                  elim out [ inl b ↦ absurd (omega arith) | inr a ↦ absurd (omega arith) ]
+            ]
+          ];
     }
 
 -- a mark is there, and the others stay
@@ -96,12 +95,12 @@ count-drop f f' (suc n) a p low high was is others =
     let split' : count_by f' (range_with_len a (suc n)) ≡ cond (f' a) 1 0 + count_by f' (range_with_len (a + 1) n) = sum_by-cons (λ x. cond (f' x) 1 0) a (range_with_len (a + 1) n) in
     elim (cases_eq a p) [
       | inl here ↦
-        let rest = count-same f' f (a + 1) n (λ x from to. others x (λ e. omega arith)) in
-        let w : cond {A = ℕ} (f a) 1 0 ≡ 1 = ap (λ b. cond b 1 0) (ap f here ∙ was) in
-        let z : cond {A = ℕ} (f' a) 1 0 ≡ 0 = ap (λ b. cond b 1 0) (ap f' here ∙ is) in omega arith
+          let rest = count-same f' f (a + 1) n (λ x from to. others x (λ e. omega arith)) in
+          let w : cond {A = ℕ} (f a) 1 0 ≡ 1 = ap (λ b. cond b 1 0) (ap f here ∙ was) in
+          let z : cond {A = ℕ} (f' a) 1 0 ≡ 0 = ap (λ b. cond b 1 0) (ap f' here ∙ is) in omega arith
       | inr before ↦
-        let rest = count-drop f f' n (a + 1) p (omega arith) (omega arith) was is others in
-        let same : cond {A = ℕ} (f' a) 1 0 ≡ cond (f a) 1 0 = ap (λ b. cond b 1 0) (others a before) in omega arith
+          let rest = count-drop f f' n (a + 1) p (omega arith) (omega arith) was is others in
+          let same : cond {A = ℕ} (f' a) 1 0 ≡ cond (f a) 1 0 = ap (λ b. cond b 1 0) (others a before) in omega arith
     ]
 
 pub unmarked-touched : (g : Shape) (marks : List Bool) (p i : ℕ) → p < length marks → has marks p ≡ false → first_part g i ≤ p → p < first_part g i + need_count g i

@@ -1,5 +1,4 @@
 -- What a closed pair tells.
-use Rattle.std.specs.Prelude.{ℕ}
 use Rattle.plain_pair.specs.declared.pair.PlainClosed.{PlainClosed}
 use Rattle.part_geometry.specs.Shape.{Shape}
 use Rattle.plain_pair.specs.Record.{Record, send_round, pieces_out}

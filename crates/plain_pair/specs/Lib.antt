@@ -11,3 +11,4 @@ pub mod Closing
 pub mod Stored
 pub mod Lessens
 pub mod Marking
+pub mod Looking

@@ -1,5 +1,5 @@
 -- When a mark may be made, by what is kept, and what it does.
-use Rattle.std.specs.Prelude.{◌≡◌, ℕ, ◌-◌, ◌<◌, Bool, true, false, ◌&&◌, ◌==◌, not, nat_lt, if◌then◌else◌, Result, Ok, Err, List}
+use Rattle.std.specs.Prelude.{◌≡◌, ℕ, ◌-◌, ◌<◌, true, false, ◌&&◌, ◌==◌, not, nat_lt, if◌then◌else◌, Result, Ok, Err, List}
 use Rattle.plain_pair.specs.declared.answers.PlainRefusal.{PlainRefusal}
 use Rattle.plain_pair.specs.declared.answers.PlainRefusal.TheVariants.{BadPartition, BadLength, NotActive, AlreadyMarked}
 use Rattle.part_geometry.specs.Shape.{Shape}

@@ -1,5 +1,5 @@
 -- What each call answers by the record, and the record after it.
-use Rattle.std.specs.Prelude.{◌≡◌, ℕ, ◌+◌, ◌-◌, Bool, true, ◌&&◌, ◌==◌, not, nat_lt, if◌then◌else◌, Option, Some, None, Result, Ok, Err, is_ok, List, [], ◌∷◌, ◌++◌, length, slice_set}
+use Rattle.std.specs.Prelude.{ℕ, ◌+◌, ◌-◌, Bool, true, ◌&&◌, ◌==◌, not, nat_lt, if◌then◌else◌, Result, Ok, Err, is_ok, List, [], ◌∷◌, ◌++◌, length, slice_set}
 use Rattle.std.specs.Option.{option_map_or}
 use Rattle.std.specs.FinMap as rounds
 use Rattle.std.specs.FinSet as parts
@@ -14,7 +14,7 @@ use Rattle.plain_pair.specs.declared.answers.PlainRefusal.TheVariants.{BadPartit
 use Rattle.plain_pair.specs.declared.answers.PlainTake.{PlainTake}
 use Rattle.plain_pair.specs.declared.answers.PlainTake.TheVariants as take
 use Rattle.plain_pair.specs.Taken.{Taken}
-use Rattle.plain_pair.specs.Record.{Record, Round, send_round, round_of, is_marked, no_marks, no_parts, missing_piece, pieces_out, bytes_of}
+use Rattle.plain_pair.specs.Record.{Record, send_round, round_of, is_marked, no_marks, no_parts, missing_piece, pieces_out, bytes_of}
 
 -- a side may start its next round, unless it is active in this one or this is the last
 abbrev pub start_answer : Bool → ℕ → Result ℕ StartFault

@@ -1,5 +1,4 @@
 -- A pair of one thread as contracts see it.
-use Rattle.std.specs.Prelude.{ℕ}
 use Rattle.plain_pair.specs.declared.pair.PlainPair.TheInside.{Inside}
 use Rattle.plain_pair.specs.Kept.{Kept}
 use Rattle.plain_pair.specs.Sound.{IsSound}

@@ -1,5 +1,5 @@
 -- What a pair has done so far, by rounds (MPI 4.0, chapter 4).
-use Rattle.std.specs.Prelude.{◌≡◌, ℕ, ◌+◌, ◌-◌, ◌*◌, ◌/◌, ◌%◌, Bool, true, false, ◌&&◌, not, nat_le, Option, List, [], length, map, sum_by, count_by, find, unwrap_or, slice_index, slice_index_or}
+use Rattle.std.specs.Prelude.{ℕ, ◌+◌, ◌-◌, ◌*◌, ◌/◌, ◌%◌, Bool, false, ◌&&◌, not, nat_le, Option, List, [], length, map, sum_by, count_by, find, unwrap_or, slice_index, slice_index_or}
 use Rattle.std.specs.List.{range_with_len, list_all}
 use Rattle.std.specs.Ordering.{nat_cmp}
 use Rattle.std.specs.FinMap as rounds

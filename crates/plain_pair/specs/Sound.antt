@@ -35,7 +35,7 @@ pub record HasRounds (kept : Kept) : Type 0 where
   pub busy : kept.receiving ≡ true → kept.received ≡ kept.released + 1
 
 -- `missing` counts what is unmarked; the round of an inactive sender, or a released one, is whole; what was taken
--- had arrived
+-- had arrived, and what is given back was taken
 pub record IsSound (kept : Kept) (missing : List ℕ) : Type 0 where
   pub shape : IsShape kept.shape
   pub sizes : HasSizes kept missing
@@ -45,3 +45,4 @@ pub record IsSound (kept : Kept) (missing : List ℕ) : Type 0 where
   pub done : kept.released ≡ kept.sent → 0 < kept.sent → (p : ℕ) → p < kept.shape.send_parts → has kept.marked p ≡ true
   pub arrived : kept.receiving ≡ true → (q x : ℕ) → q < kept.shape.recv_parts → has kept.taken q ≡ true → x < send_total kept.shape
       → x / kept.shape.recv_bytes ≡ q → kept_mark kept kept.received (x / kept.shape.send_bytes) ≡ true
+  pub returned : (q : ℕ) → q < kept.shape.recv_parts → has kept.back q ≡ true → has kept.taken q ≡ true

@@ -1,5 +1,5 @@
 -- Which records a pair stands for.
-use Rattle.std.specs.Prelude.{◌≡◌, ℕ, ◌/◌, ◌<◌, ◌≤◌, Bool, true, false}
+use Rattle.std.specs.Prelude.{◌≡◌, ℕ, ◌/◌, ◌<◌, ◌≤◌, true, false}
 use Rattle.std.specs.FinSet as parts
 use Rattle.part_geometry.specs.Shape.{send_total}
 use Rattle.plain_pair.specs.Record.{Record, send_round, round_of, is_marked, pieces_out, byte_at}

@@ -1,11 +1,12 @@
 -- Where the cells of each partition and piece begin.
-use Rattle.std.specs.Prelude.{◌≡◌, ◌⊎◌, ℕ, zero, suc, ◌+◌, ◌<◌, ◌≤◌, List, length, map, slice_index}
+use Rattle.std.specs.Prelude.{◌≡◌, true, false, ◌⊎◌, ℕ, ◌+◌, ◌<◌, ◌≤◌, List, length, map, slice_index}
 use Rattle.std.specs.List.{range_with_len}
 use Rattle.part_geometry.specs.declared.walk.Cell.{Cell}
 use Rattle.part_geometry.specs.Shape.{Shape, IsShape}
 use Rattle.part_geometry.specs.Cells.{cells, send_of, recv_of}
 use Rattle.part_geometry.specs.Pieces.{pieces, piece_of, first_part, need_count}
 use Rattle.part_geometry.specs.Walk.{cell_at}
+use Rattle.plain_pair.specs.Record.{is_over}
 use Rattle.plain_pair.specs.declared.tables.Row.{Row}
 use Rattle.plain_pair.specs.declared.tables.Row.TheVariants.{Send, Recv, Piece}
 
@@ -54,3 +55,10 @@ pub record ArePiecesOf (g : Shape) (p first end : ℕ) : Type 0 where
   pub inside : end ≤ pieces g
   pub touch : (i : ℕ) → first ≤ i → i < end → (first_part g i ≤ p) × (p < first_part g i + need_count g i)
   pub apart : (i : ℕ) → i < pieces g → (i < first) ⊎ (end ≤ i) → (p < first_part g i) ⊎ (first_part g i + need_count g i ≤ p)
+
+-- the pieces over a receive partition are those with a cell of it
+pub record ArePiecesOver (g : Shape) (q first end : ℕ) : Type 0 where
+  pub some : first < end
+  pub inside : end ≤ pieces g
+  pub over : (i : ℕ) → first ≤ i → i < end → is_over g q i ≡ true
+  pub apart : (i : ℕ) → i < pieces g → (i < first) ⊎ (end ≤ i) → is_over g q i ≡ false

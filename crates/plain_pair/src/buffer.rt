@@ -5,6 +5,7 @@ ghost use Rattle.plain_pair.specs.Written.{written};
 
 use std::alloc::{AllocError, Global};
 use std::marker::Model;
+use std::mem;
 
 /// Some bytes that move as one. Contracts see the list of them.
 #[derive(Debug, Drop)]
@@ -35,6 +36,22 @@ impl Buffer {
         Ok(Buffer {
             bytes: vec![in alloc; 0; len]?,
         })
+    }
+
+    /// A buffer of no bytes, which takes no memory.
+    fn empty(alloc: Global) -> Buffer
+        ensures { result ≡ [] }
+    {
+        Buffer {
+            bytes: Vec::new(alloc),
+        }
+    }
+
+    /// All of the bytes, in order.
+    pub(crate) fn as_slice(&self) -> &[u8]
+        ensures { result.now ≡ self.now }
+    {
+        self.bytes.as_slice()
     }
 
     /// Writes a piece over the bytes from `at` on.
@@ -70,4 +87,14 @@ pub(crate) fn write_at(buffers: &mut Vec<Buffer>, index: usize, at: usize, piece
 {
     let buffer = &mut buffers[index];
     buffer.write(at, piece);
+}
+
+/// Takes one of the buffers out, and leaves an empty one.
+pub(crate) fn take_at(buffers: &mut Vec<Buffer>, index: usize) -> Buffer
+    requires { index < length buffers.old.items }
+    ensures taken { result ≡ slice_index_or buffers.old.items index [] }
+    ensures left { buffers.new.items ≡ slice_set buffers.old.items index [] }
+{
+    let alloc = *buffers.allocator();
+    mem::replace(&mut buffers[index], Buffer::empty(alloc))
 }

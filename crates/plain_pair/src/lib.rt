@@ -2,11 +2,15 @@
 #![tactic(auto)]
 
 mod answers;
+mod arrival;
 mod buffer;
 mod flags;
 mod marking;
 mod pair;
 mod tables;
+#[cfg(test)]
+mod tests;
 
 pub use answers::{PlainLook, PlainRefusal, PlainTake};
+pub use arrival::PlainArrival;
 pub use pair::{LAST_ROUND, PlainClosed, PlainPair};

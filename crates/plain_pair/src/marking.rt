@@ -1,6 +1,6 @@
 //! The work of a mark: its bytes are stored, and the pieces that it completes are counted.
 
-ghost use Rattle.std.specs.Prelude.{◌≡◌, ℕ, ◌+◌, ◌-◌, ◌*◌, ◌<◌, ◌≤◌, ◌==◌, ◌&&◌, nat_le, if◌then◌else◌, [], length, count_by, slice_index, slice_set};
+ghost use Rattle.std.specs.Prelude.{◌≡◌, ℕ, ◌+◌, ◌-◌, ◌*◌, ◌<◌, ◌≤◌, ◌==◌, ◌&&◌, nat_le, if◌then◌else◌, [], length, count_by, find, not, slice_index, slice_set};
 ghost use Rattle.std.specs.List.{range_with_len};
 ghost use Rattle.part_geometry.specs.Pieces.{pieces};
 ghost use Rattle.plain_pair.specs.Lessens.{Lessens};
@@ -32,13 +32,7 @@ fn store_cell(
 
 /// Stores the bytes of send partition `p` in the buffers of the receive partitions, of which the first is at
 /// `base`.
-pub(crate) fn store(
-    tables: &Tables,
-    buffers: &mut Vec<Buffer>,
-    base: usize,
-    p: usize,
-    bytes: &[u8],
-)
+pub(crate) fn store(tables: &Tables, buffers: &mut Vec<Buffer>, base: usize, p: usize, bytes: &[u8])
     requires part { p < tables.now.send_parts }
     requires length { length bytes.now ≡ tables.now.send_bytes }
     requires buffers { base + tables.now.recv_parts ≤ length buffers.old.items }
@@ -82,4 +76,18 @@ pub(crate) fn count_down(missing: &mut Vec<u32>, first: usize, end: usize) -> u3
         }
     }
     whole
+}
+
+/// The least piece from `first` up to and without `end` of which something is missing.
+pub(crate) fn first_missing(missing: &[u32], first: usize, end: usize) -> Option<u32>
+    requires inside { end ≤ length missing.now }
+    requires few { end ≤ 16777216 }
+    ensures { result ≡ find (λ i. not (slice_index missing.now i == 0)) (range_with_len first (end - first)) }
+{
+    for i in first..end {
+        if missing[i] != 0 {
+            return Some(i as u32);
+        }
+    }
+    None
 }

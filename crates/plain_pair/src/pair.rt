@@ -1,12 +1,13 @@
 //! The object.
 
-ghost use Rattle.std.specs.Prelude.{◌≡◌, ◌≤◌, length, IfOk};
+ghost use Rattle.std.specs.Prelude.{◌≡◌, ◌<◌, ◌≤◌, None, length, IfOk};
 ghost use Rattle.plain_pair.specs.Moves.{start_answer};
 
-use crate::buffer::{Buffer, zero_buffers};
+use crate::answers::{PlainLook, PlainRefusal, PlainTake};
+use crate::arrival::PlainArrival;
+use crate::buffer::{Buffer, take_at, zero_buffers};
 use crate::flags::{add, all_missing, clear, none_of, pieces_out, reset};
-use crate::answers::PlainRefusal;
-use crate::marking::{count_down, store};
+use crate::marking::{count_down, first_missing, store};
 use crate::tables::Tables;
 use part_geometry::{Geometry, Marked, StartFault};
 use std::alloc::{AllocError, Global};
@@ -73,8 +74,9 @@ fn next_round(active: bool, round: u32) -> Result<u32, StartFault>
 
 impl PlainPair {
     ghost use Rattle.plain_pair.specs.Record.{first_record};
-    ghost use Rattle.plain_pair.specs.Moves.{start_send_answer, after_start_send, start_recv_answer, after_start_recv, pready_answer, after_pready};
+    ghost use Rattle.plain_pair.specs.Moves.{start_send_answer, after_start_send, start_recv_answer, after_start_recv, pready_answer, after_pready, parrived_answer, take_answer, after_take};
     ghost use Rattle.plain_pair.specs.Closing.{closed_answer};
+    ghost use Rattle.plain_pair.specs.Looking.{CanTake, Takes, kept_missing, take_refusal};
     ghost use Rattle.plain_pair.specs.Marking.{CanMark, Marks, refusal};
     ghost use Rattle.plain_pair.specs.StandsFor.{StandsFor, Follows};
 
@@ -203,5 +205,85 @@ impl PlainPair {
         add(&mut self.marked, p);
         let (first, end) = self.tables.send_pieces(p);
         count_down(&mut self.missing, first, end)
+    }
+
+    /// Whether receive partition `q` has arrived in the receiver's round (`MPI_Parrived`, MPI 4.0, 4.2.2).
+    pub fn parrived(&self, q: u32) -> PlainLook
+        ensures { (r : _) → StandsFor self.now r → result ≡ parrived_answer self.now.shape r q }
+    {
+        if !self.receiving {
+            return PlainLook::Idle;
+        }
+        if q >= self.tables.geometry().recv_parts() {
+            return PlainLook::BadPartition;
+        }
+        match self.missing_piece(q as usize) {
+            Some(piece) => PlainLook::NotYet { piece },
+            None => PlainLook::Arrived,
+        }
+    }
+
+    /// The least piece over receive partition `q` that isn't out in the receiver's round.
+    fn missing_piece(&self, q: usize) -> Option<u32>
+        requires { q < self.now.shape.recv_parts }
+        ensures { result ≡ kept_missing self.now q }
+    {
+        let (first, end) = self.tables.recv_pieces(q);
+        if self.received < self.sent {
+            return None;
+        }
+        if self.received > self.sent {
+            return Some(first as u32);
+        }
+        first_missing(&self.missing, first, end)
+    }
+
+    /// Takes receive partition `q` out of the receiver's round: its bytes go over to the caller. Refused while the
+    /// receiver is inactive, where it has no such partition, where the partition was taken in this round, and where
+    /// a piece over it isn't out; nothing changes then.
+    pub fn take(&mut self, q: u32) -> Result<PlainArrival, PlainTake>
+        ensures shape { self.new.shape ≡ self.old.shape }
+        ensures answer { Follows self.old self.new result
+            (λ r. take_answer self.old.shape r q) (λ r. after_take self.old.shape r q) }
+    {
+        let _tables = &self.tables;
+        self.refuse_take(q)?;
+        Ok(self.take_out(q))
+    }
+
+    /// The first cause against a take.
+    fn refuse_take(&self, q: u32) -> Result<(), PlainTake>
+        ensures { result ≡ take_refusal self.now q }
+    {
+        if !self.receiving {
+            return Err(PlainTake::Idle);
+        }
+        if q >= self.tables.geometry().recv_parts() {
+            return Err(PlainTake::BadPartition);
+        }
+        if self.taken[q as usize] {
+            return Err(PlainTake::AlreadyTaken {
+                round: self.received,
+            });
+        }
+        match self.missing_piece(q as usize) {
+            Some(piece) => Err(PlainTake::NotYet { piece }),
+            None => Ok(()),
+        }
+    }
+
+    /// Takes a partition that has arrived and isn't taken.
+    fn take_out(&mut self, q: u32) -> PlainArrival
+        requires free { CanTake self.old q }
+        requires arrived { kept_missing self.old q ≡ None }
+        ensures shape { self.new.shape ≡ self.old.shape }
+        ensures takes { Takes self.old self.new q result }
+    {
+        let geometry = self.tables.geometry();
+        let place = (self.received % geometry.depth()) as usize;
+        let index = place * geometry.recv_parts() as usize + q as usize;
+        let buffer = take_at(&mut self.buffers, index);
+        add(&mut self.taken, q as usize);
+        PlainArrival::new(self.received, q, buffer)
     }
 }

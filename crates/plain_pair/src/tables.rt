@@ -6,7 +6,7 @@ ghost use Rattle.part_geometry.specs.Shape.{IsShape};
 ghost use Rattle.part_geometry.specs.Cells.{cells};
 ghost use Rattle.part_geometry.specs.Pieces.{pieces, need_count};
 ghost use Rattle.part_geometry.specs.Walk.{cell_at};
-ghost use Rattle.plain_pair.specs.Tables.{AreCellsOf, AreFirsts, ArePiecesOf};
+ghost use Rattle.plain_pair.specs.Tables.{AreCellsOf, AreFirsts, ArePiecesOf, ArePiecesOver};
 
 use part_geometry::{Cell, CellWalk, Geometry};
 use std::alloc::{AllocError, Global};
@@ -177,6 +177,17 @@ impl Tables {
     {
         let _geometry = self.geometry();
         let (first, end) = self.send_cells(p);
+        let last = self.cell(end - 1).piece as usize;
+        (self.cell(first).piece as usize, last + 1)
+    }
+
+    /// The first piece over receive partition `q`, and the piece behind the last.
+    pub(crate) fn recv_pieces(&self, q: usize) -> (usize, usize)
+        requires { q < self.now.recv_parts }
+        ensures { ArePiecesOver self.now q result.0 result.1 }
+    {
+        let _geometry = self.geometry();
+        let (first, end) = self.recv_cells(q);
         let last = self.cell(end - 1).piece as usize;
         (self.cell(first).piece as usize, last + 1)
     }

@@ -1,8 +1,6 @@
-use Rattle.std.proofs.Common.{◌≡◌, ◌*◌, length, refl, ap, sym, ◌∙◌, arith, subst}
-use Rattle.part_geometry.specs.Cells.{start, end}
+use Rattle.std.proofs.Common.{◌≡◌, ap, ◌∙◌, arith, subst}
 use Rattle.part_geometry.specs.Shape.{IsShape}
 use Rattle.part_geometry.proofs.Bounds.{end-start}
-use Rattle.plain_pair.specs.Stored.{Stores}
 use Rattle.plain_pair.proofs.Storing.{part_places, stored_none, stored_more, can_store}
 use Rattle.plain_pair.proofs.marking.store.Goals as goal
 
@@ -24,7 +22,7 @@ loop-c-preserved c =
     let low = ap (λ x. x.start) c.cell-low.ensures in
     let l = low ∙ (part_places g v _ _ _ c.requires.part c.send_cells-first.ensures).0 in
     let can = can_store g v _ _ _ _ _ _ _ _ _ c.requires.part c.send_cells-first.ensures c.loop-c.auto.c c.loop-c-test.true c.requires.length c.requires.buffers
-        c.requires.room c.loop-c.invariant low in
+    c.requires.room c.loop-c.invariant low in
     rw (c.store_cell.ensures, l, ← end-start g c.loop-c.c)
     (stored_more g c.args.base _ c.loop-c.c c.args.bytes.now c.args.buffers.now.items c.loop-c.buffers.items (rw l at can) c.loop-c.invariant)
 

@@ -1,5 +1,4 @@
-use Rattle.std.proofs.Common.{◌≡◌, ◌*◌, length, refl, ap, sym, ◌∙◌, arith}
-use Rattle.part_geometry.specs.Cells.{start, end, recv_of}
+use Rattle.std.proofs.Common.{ap, ◌∙◌, arith}
 use Rattle.plain_pair.proofs.Storing.{numbers}
 use Rattle.plain_pair.proofs.marking.store_cell.Goals as goal
 

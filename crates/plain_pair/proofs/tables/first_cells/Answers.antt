@@ -1,7 +1,6 @@
-use Rattle.std.proofs.Common.{◌≡◌, ◌++◌, ◌∷◌, [], length, sym, ap, ◌∙◌, arith, refl}
+use Rattle.std.proofs.Common.{◌≡◌, ◌++◌, ◌∷◌, [], length, sym, ap, ◌∙◌, arith}
 use Rattle.part_geometry.specs.Cells.{cells}
-use Rattle.plain_pair.specs.Tables.{number}
-use Rattle.plain_pair.proofs.Firsts.{SoFar, so_far_none, so_far_pushed, so_far_kept, firsts_whole, cells_length}
+use Rattle.plain_pair.proofs.Firsts.{so_far_none, so_far_pushed, so_far_kept, firsts_whole, cells_length}
 use Rattle.plain_pair.proofs.tables.first_cells.Goals as goal
 use Rattle.plain_pair.proofs.tables.first_cells.Goals.{then-number-len+in_ok-push, else-number-len}
 

@@ -1,4 +1,4 @@
-use Rattle.std.proofs.Common.{◌≡◌, ◌+◌, ◌-◌, ◌<◌, length, slice_index_or, refl, arith}
+use Rattle.std.proofs.Common.{refl, arith}
 use Rattle.part_geometry.specs.Walk.{cell_at}
 use Rattle.part_geometry.proofs.Bounds.{cells-le}
 use Rattle.plain_pair.proofs.Firsts.{cells_length}

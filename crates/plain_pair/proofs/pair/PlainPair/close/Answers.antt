@@ -1,6 +1,3 @@
-use Rattle.std.proofs.Common.{ap, sym, ◌∙◌, arith}
-use Rattle.part_geometry.proofs.Bounds.{cells-le}
-use Rattle.part_geometry.proofs.PieceFacts.{pieces-le}
 use Rattle.plain_pair.specs.Pair.{kept_of}
 use Rattle.plain_pair.proofs.Closing.{closed_is, few_missing}
 use Rattle.plain_pair.proofs.pair.PlainPair.close.Goals as goal

@@ -1,8 +1,4 @@
-use Rattle.std.proofs.Common.{◌≡◌, subst, sym, ◌∙◌}
-use Rattle.plain_pair.specs.Sound.{IsSound}
-use Rattle.plain_pair.specs.StandsFor.{StandsFor}
-use Rattle.plain_pair.specs.Record.{first_record}
-use Rattle.plain_pair.specs.Kept.{Kept}
+use Rattle.std.proofs.Common.{◌∙◌}
 use Rattle.plain_pair.proofs.Starts.{IsMadeOf, made_first, sound_first, stands_first}
 use Rattle.plain_pair.proofs.pair.PlainPair.create.Goals as goal
 

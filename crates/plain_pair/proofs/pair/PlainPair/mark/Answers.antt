@@ -1,10 +1,9 @@
-use Rattle.std.proofs.Common.{◌≡◌, ◌+◌, ◌*◌, ◌%◌, refl, ap, sym, subst, ◌∙◌, arith}
+use Rattle.std.proofs.Common.{ap, sym, subst, ◌∙◌, arith}
 use Rattle.part_geometry.proofs.Bounds.{cells-le}
 use Rattle.part_geometry.proofs.PieceFacts.{pieces-le}
 use Rattle.plain_pair.specs.Pair.{kept_of}
-use Rattle.plain_pair.specs.Marking.{CanMark, Marks}
-use Rattle.plain_pair.specs.Stored.{Stores, HasRoom}
-use Rattle.plain_pair.proofs.Marks.{IsMarked, room_now, some_missing, sound_mark, marks, base_of}
+use Rattle.plain_pair.specs.Marking.{CanMark}
+use Rattle.plain_pair.proofs.Marks.{IsMarked, room_now, some_missing, sound_mark, marks}
 use Rattle.plain_pair.proofs.pair.PlainPair.mark.Goals as goal
 
 pub store-requires-clause-room : goal.store-requires-clause-room

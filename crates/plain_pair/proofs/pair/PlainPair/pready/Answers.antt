@@ -1,8 +1,5 @@
-use Rattle.std.proofs.Common.{◌≡◌, ap, sym, subst, ◌∙◌, Ok, Err, length}
+use Rattle.std.proofs.Common.{subst, ◌∙◌, length}
 use Rattle.std.proofs.lemmas.Result.{err_from_is_err_and}
-use Rattle.plain_pair.specs.Kept.{Kept}
-use Rattle.plain_pair.specs.Pair.{kept_of}
-use Rattle.plain_pair.specs.Marking.{refusal, Marks}
 use Rattle.plain_pair.specs.Sound.{IsSound}
 use Rattle.plain_pair.proofs.Refusals.{same_refusal, follows_refused, follows_marked}
 use Rattle.plain_pair.proofs.pair.PlainPair.pready.Goals as goal

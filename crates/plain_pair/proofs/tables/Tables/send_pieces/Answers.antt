@@ -1,6 +1,5 @@
-use Rattle.std.proofs.Common.{◌+◌, ap, sym, ◌∙◌, subst}
+use Rattle.std.proofs.Common.{ap, subst}
 use Rattle.part_geometry.specs.Shape.{IsShape}
-use Rattle.plain_pair.specs.Tables.{ArePiecesOf}
 use Rattle.plain_pair.proofs.Touching.{pieces_of_part}
 use Rattle.plain_pair.proofs.tables.Tables.send_pieces.Goals as goal
 

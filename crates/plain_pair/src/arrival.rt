@@ -1,0 +1,79 @@
+//! What a take hands over.
+
+ghost use Rattle.std.specs.Prelude.{◌≡◌, ◌<◌, length, slice_index};
+
+use crate::buffer::Buffer;
+use std::marker::Model;
+
+/// The bytes of one receive partition in one round, owned by whoever took them. Contracts see the round, the
+/// partition and the bytes.
+#[derive(Debug, Drop)]
+pub struct PlainArrival {
+    round: u32,
+    partition: u32,
+    buffer: Buffer,
+}
+
+impl Model for PlainArrival {
+    ghost use Rattle.plain_pair.specs.Taken.{Taken};
+
+    ghost Value = { Taken };
+
+    ghost view = { λ a. record { round = a.round; partition = a.partition; bytes = a.buffer } };
+}
+
+impl PlainArrival {
+    pub(crate) fn new(round: u32, partition: u32, buffer: Buffer) -> PlainArrival
+        ensures { result ≡ record { round = round; partition = partition; bytes = buffer } }
+    {
+        PlainArrival {
+            round,
+            partition,
+            buffer,
+        }
+    }
+
+    /// The round that it was taken in.
+    pub fn round(&self) -> u32
+        ensures { result ≡ self.now.round }
+    {
+        self.round
+    }
+
+    /// The receive partition.
+    pub fn partition(&self) -> u32
+        ensures { result ≡ self.now.partition }
+    {
+        self.partition
+    }
+
+    /// How many bytes it has, those of a receive partition.
+    pub fn len(&self) -> usize
+        ensures { result ≡ length self.now.bytes }
+    {
+        self.buffer.as_slice().len()
+    }
+
+    /// Byte `i`, from 0 on.
+    pub fn byte(&self, i: usize) -> u8
+        requires { i < length self.now.bytes }
+        ensures { result ≡ slice_index self.now.bytes i }
+    {
+        self.buffer.as_slice()[i]
+    }
+
+    /// All of the bytes, in order.
+    pub fn as_slice(&self) -> &[u8]
+        ensures { result.now ≡ self.now.bytes }
+    {
+        self.buffer.as_slice()
+    }
+
+    /// Copies all bytes to a slice of their number.
+    pub fn copy_into(&self, out: &mut [u8])
+        requires { length out.old ≡ length self.now.bytes }
+        ensures { out.new ≡ self.now.bytes }
+    {
+        out.copy_from_slice(self.buffer.as_slice());
+    }
+}

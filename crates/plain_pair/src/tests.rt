@@ -1,0 +1,84 @@
+//! Short runs of a pair, with the pieces counted by hand.
+
+use crate::{PlainLook, PlainPair, PlainRefusal, PlainTake};
+use part_geometry::{Geometry, StartFault};
+
+/// A pair of 3 send partitions of 4 bytes and 2 receive partitions of 6 bytes, with a round started on both sides.
+fn started(rt: &HostRuntime, grain: u32, depth: u32) -> PlainPair {
+    let geometry = Geometry::new(3, 4, 2, 6, grain, depth).expect(rt, "within the limits");
+    let mut pair = PlainPair::create(rt.alloc(), geometry).expect(rt, "enough memory");
+    assert_eq!(rt; pair.start_send(), Ok(1));
+    assert_eq!(rt; pair.start_recv(), Ok(1));
+    pair
+}
+
+#[test]
+fn pieces_go_out_with_their_last_mark(rt: HostRuntime) {
+    let mut pair = started(&rt, 1, 1);
+    let sent = [(2, 1), (0, 1), (1, 2)];
+    for (p, count) in sent {
+        let marked = pair.pready(1, p, b"abcd").expect(&rt, "unmarked");
+        assert_eq!(rt; marked.sent, count, "partition {p}");
+    }
+    let mut pair = started(&rt, 6, 1);
+    let sent = [(0, 0), (1, 1), (2, 1)];
+    for (p, count) in sent {
+        let marked = pair.pready(1, p, b"abcd").expect(&rt, "unmarked");
+        assert_eq!(rt; marked.sent, count, "partition {p} at grain 6");
+    }
+}
+
+#[test]
+fn a_take_has_the_bytes_of_its_partition(rt: HostRuntime) {
+    let mut pair = started(&rt, 1, 1);
+    pair.pready(1, 0, b"abcd").expect(&rt, "unmarked");
+    assert_eq!(rt; pair.parrived(0), PlainLook::NotYet { piece: 1 });
+    assert_eq!(rt; pair.take(0).err(), Some(PlainTake::NotYet { piece: 1 }));
+    pair.pready(1, 1, b"efgh").expect(&rt, "unmarked");
+    assert_eq!(rt; pair.parrived(0), PlainLook::Arrived);
+    let taken = pair.take(0).expect(&rt, "arrived");
+    assert_eq!(rt; taken.as_slice(), b"abcdef");
+    assert_eq!(rt;
+        pair.take(0).err(),
+        Some(PlainTake::AlreadyTaken { round: 1 })
+    );
+}
+
+#[test]
+fn a_refused_mark_changes_nothing(rt: HostRuntime) {
+    let mut pair = started(&rt, 1, 1);
+    pair.pready(1, 2, b"ijkl").expect(&rt, "unmarked");
+    assert_eq!(rt; pair.pready(1, 3, b"abcd"), Err(PlainRefusal::BadPartition));
+    assert_eq!(rt; pair.pready(1, 2, b"abc"), Err(PlainRefusal::BadLength));
+    assert_eq!(rt; pair.pready(2, 2, b"abcd"), Err(PlainRefusal::NotActive));
+    assert_eq!(rt;
+        pair.pready(1, 2, b"abcd"),
+        Err(PlainRefusal::AlreadyMarked)
+    );
+    pair.pready(1, 1, b"efgh").expect(&rt, "unmarked");
+    let taken = pair.take(1).expect(&rt, "arrived");
+    assert_eq!(rt; taken.as_slice(), b"ghijkl");
+}
+
+#[test]
+fn a_side_that_is_active_does_not_start(rt: HostRuntime) {
+    let mut pair = started(&rt, 1, 2);
+    assert_eq!(rt;
+        pair.start_send(),
+        Err(StartFault::AlreadyActive { round: 1 })
+    );
+    assert_eq!(rt;
+        pair.start_recv(),
+        Err(StartFault::AlreadyActive { round: 1 })
+    );
+    let closed = pair.close();
+    assert_eq!(rt;
+        (
+            closed.send_round,
+            closed.recv_round,
+            closed.released,
+            closed.pieces_out
+        ),
+        (1, 1, 0, 0)
+    );
+}
