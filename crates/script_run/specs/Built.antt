@@ -1,5 +1,6 @@
 -- The form of a script.
 use Rattle.std.specs.Prelude.{ℕ, Bool, true, false, ◌&&◌, ◌||◌, ◌==◌, not, nat_lt, nat_le, bytes_eq, is_ok, if◌then◌else◌, List, [], ◌∷◌, length, Option}
+use Rattle.part_geometry.specs.Shape.{Shape}
 use Rattle.part_geometry.specs.Making.{geometry_of}
 use Rattle.script_run.specs.Words.{◌>>=◌, when, is_within}
 use Rattle.script_run.specs.Lines.{all_lines_of}
@@ -21,16 +22,20 @@ is_pair send recv =
     not (bytes_eq send.name recv.name) && send.from == recv.from && send.to == recv.to && send.tag == recv.tag
     && send.comm == recv.comm
 
--- the partitions of the two sides make a geometry
-abbrev pub is_divided : ℕ → ℕ → Init → Init → Bool
-is_divided grain depth send recv = is_ok (geometry_of record {
+-- the six numbers of the pair
+abbrev pub shape_of : ℕ → ℕ → Init → Init → Shape
+shape_of grain depth send recv = record {
   send_parts = send.parts;
   send_bytes = send.bytes;
   recv_parts = recv.parts;
   recv_bytes = recv.bytes;
   grain = grain;
   depth = depth;
-})
+}
+
+-- they make a geometry
+abbrev pub is_divided : ℕ → ℕ → Init → Init → Bool
+is_divided grain depth send recv = is_ok (geometry_of (shape_of grain depth send recv))
 
 -- a step of a run, with the names of the sender and the receiver
 abbrev pub is_step : List ℕ → List ℕ → Line → Bool
@@ -39,8 +44,8 @@ is_step send recv (Send i) = false
 is_step send recv (Recv i) = false
 is_step send recv (Start name) = bytes_eq name send || bytes_eq name recv
 is_step send recv (Ready name round partition bytes) = bytes_eq name send
-is_step send recv (Arrived name q) = bytes_eq name recv
-is_step send recv (Take name q) = bytes_eq name recv
+is_step send recv (Arrived name q) = false
+is_step send recv (Take name q) = false
 is_step send recv End = false
 
 abbrev pub is_end : Line → Bool

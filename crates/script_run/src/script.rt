@@ -95,8 +95,7 @@ fn is_step(send: &Name, recv: &Name, line: &Line) -> bool
     match line {
         Line::Start { name } => name.is_same(send) || name.is_same(recv),
         Line::Ready { name, .. } => name.is_same(send),
-        Line::Arrived { name, .. } | Line::Take { name, .. } => name.is_same(recv),
-        Line::World { .. } | Line::Send(_) | Line::Recv(_) | Line::End => false,
+        _ => false,
     }
 }
 

@@ -1,4 +1,8 @@
-//! Texts that are scripts, and texts that aren't.
+//! Texts that are scripts, texts that aren't, and what scripts answer.
+
+ghost use Rattle.std.specs.Prelude.{◌≡◌, ◌≤◌, length, IfOk, IfSome};
+ghost use Rattle.script_run.specs.Built.{script_of};
+ghost use Rattle.script_run.specs.Run.{answers_of};
 
 use super::*;
 use std::alloc::{AllocError, Global};
@@ -65,22 +69,16 @@ fn is_start(line: &Line, of: &[u8]) -> bool {
 #[test]
 fn each_line_is_read(rt: HostRuntime) -> Result<(), Fail> {
     let text =
-        b"world 2 4 2\nsend a 0 1 7 3 2 4\nrecv b 0 1 7 3 4 2\nstart a\nstart b\nready a 1 1 0aFf10B2\nready a 1 0 -\narrived b 3\ntake b 2\nend\n";
+        b"world 2 4 2\nsend a 0 1 7 3 2 4\nrecv b 0 1 7 3 4 2\nstart a\nstart b\nready a 1 1 0aFf10B2\nready a 1 0 -\nend\n";
     let script = parse_script(rt.alloc(), text)?;
     let lines = script.lines();
-    assert_eq!(rt; lines.len(), 10);
+    assert_eq!(rt; lines.len(), 8);
     assert!(rt; is_head(lines));
     assert!(rt; is_start(&lines[3], b"a"));
     assert!(rt; is_start(&lines[4], b"b"));
     assert!(rt; is_ready(&lines[5], b"a", [1, 1], &[10, 255, 16, 178]));
     assert!(rt; is_ready(&lines[6], b"a", [1, 0], &[]));
-    assert!(rt;
-        matches!(&lines[7], Line::Arrived { name, q: 3 } if name.as_slice() == b"b".as_slice())
-    );
-    assert!(rt;
-        matches!(&lines[8], Line::Take { name, q: 2 } if name.as_slice() == b"b".as_slice())
-    );
-    assert!(rt; matches!(lines[9], Line::End));
+    assert!(rt; matches!(lines[7], Line::End));
     Ok(())
 }
 
@@ -105,6 +103,8 @@ fn other_texts_are_refused(rt: HostRuntime) -> Result<(), Fail> {
         "ready b 1 0 ab\nend\n",
         "arrived a 0\nend\n",
         "test b\nend\n",
+        "arrived b 0\nend\n",
+        "take b 0\nend\n",
         "end\nend\n",
         "end\nstart a\n",
         "start a\n",
@@ -138,8 +138,8 @@ fn heads_have_limits(rt: HostRuntime) -> Result<(), Fail> {
 fn limits_are_reached(rt: HostRuntime) -> Result<(), Fail> {
     let bodies = [
         "ready a 1 0 -\nend\n",
-        "arrived b 0000000000000000001\nend\n",
-        "arrived b 4294967295\nend\n",
+        "ready a 0000000000000000001 0 ab\nend\n",
+        "ready a 1 4294967295 ab\nend\n",
     ];
     for body in bodies {
         assert_eq!(rt; count(rt.alloc(), HEAD, body)?, Some(5), "{body:?}");
@@ -147,5 +147,46 @@ fn limits_are_reached(rt: HostRuntime) -> Result<(), Fail> {
     let long =
         "world 64 4 2\nsend abcdefghijklmnop 63 63 32767 15 2 4\nrecv Q_9 63 63 32767 15 4 2\n";
     assert_eq!(rt; count(rt.alloc(), long, "end\n")?, Some(4));
+    Ok(())
+}
+
+/// The answers to a script of this text.
+fn answers(alloc: Global, text: &[u8]) -> Result<Vec<u8>, ScriptFault>
+    requires { length text.now ≤ 1048576 }
+    ensures { IfOk result (λ answers. IfSome (script_of text.now) (λ script. answers.items ≡ answers_of script)) }
+{
+    let script = parse_script(alloc, text)?;
+    Ok(run_script(alloc, &script)?)
+}
+
+#[test]
+fn starts_are_run(rt: HostRuntime) -> Result<(), Fail> {
+    let text =
+        b"world 2 1 1\nsend a 0 1 7 0 3 4\nrecv b 0 1 7 0 2 6\nstart a\nstart b\nstart a\nend\n";
+    let wanted =
+        b"ok\nok\nok\nround 1\nround 1\nrefused AlreadyActive 1\npair a b started 1 1 released 0 pieces 0\n";
+    let got = answers(rt.alloc(), text)?;
+    assert!(rt; got.as_slice() == wanted.as_slice());
+    Ok(())
+}
+
+#[test]
+fn the_receiver_starts_alone(rt: HostRuntime) -> Result<(), Fail> {
+    let text = b"world 64 4 2\nsend a_1 3 3 0 15 2 4\nrecv B 3 3 0 15 4 2\nstart B\nstart B\nend\n";
+    let wanted =
+        b"ok\nok\nok\nround 1\nrefused AlreadyActive 1\npair a_1 B started 0 1 released 0 pieces 0\n";
+    let got = answers(rt.alloc(), text)?;
+    assert!(rt; got.as_slice() == wanted.as_slice());
+    Ok(())
+}
+
+#[test]
+fn marks_are_run(rt: HostRuntime) -> Result<(), Fail> {
+    let text =
+        b"world 2 1 1\nsend a 0 1 7 0 3 4\nrecv b 0 1 7 0 2 6\nready a 1 0 00010203\nstart a\nready a 1 1 04050607\nready a 1 0 00010203\nready a 2 2 00010203\nready a 1 0 00010203\nready a 1 3 00010203\nready a 1 2 -\nend\n";
+    let wanted =
+        b"ok\nok\nok\nrefused NotActive\nround 1\nmarked 2\nmarked 1\nrefused NotActive\nrefused AlreadyMarked\nrefused BadPartition\nrefused BadLength\npair a b started 1 0 released 0 pieces 3\n";
+    let got = answers(rt.alloc(), text)?;
+    assert!(rt; got.as_slice() == wanted.as_slice());
     Ok(())
 }
