@@ -9,3 +9,6 @@ mod status;
 pub use note::{Note, line_of, tell};
 pub use serial::run_serial;
 pub use status::Status;
+
+#[cfg(test)]
+mod tests;
