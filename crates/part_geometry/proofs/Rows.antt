@@ -49,10 +49,10 @@ send-row g v = record {
   rises = λ c inside. send-mono g v c (c + 1) (omega arith) (omega arith);
   step = λ c inside. send-step g v c (omega arith);
   last =
-    let some = cells-pos g v in
-    let up = send-step g v (cells g - 1) (omega arith) in
-    let e : send_of g (cells g - 1 + 1) ≡ send_of g (cells g) = ap (send_of g) (let z : cells g - 1 + 1 ≡ cells g = omega arith in z) in
-    let l = send-last g v in let b = send-below g v (cells g - 1) (omega arith) in omega arith;
+      let some = cells-pos g v in
+      let up = send-step g v (cells g - 1) (omega arith) in
+      let e : send_of g (cells g - 1 + 1) ≡ send_of g (cells g) = ap (send_of g) (let z : cells g - 1 + 1 ≡ cells g = omega arith in z) in
+      let l = send-last g v in let b = send-below g v (cells g - 1) (omega arith) in omega arith;
 }
 
 pub recv-row : (g : Shape) → IsShape g → IsRow (recv_of g) (cells g) g.recv_parts
@@ -62,10 +62,10 @@ recv-row g v = record {
   rises = λ c inside. recv-mono g v c (c + 1) (omega arith) (omega arith);
   step = λ c inside. recv-step g v c (omega arith);
   last =
-    let some = cells-pos g v in
-    let up = recv-step g v (cells g - 1) (omega arith) in
-    let e : recv_of g (cells g - 1 + 1) ≡ recv_of g (cells g) = ap (recv_of g) (let z : cells g - 1 + 1 ≡ cells g = omega arith in z) in
-    let l = recv-last g v in let b = recv-below g v (cells g - 1) (omega arith) in omega arith;
+      let some = cells-pos g v in
+      let up = recv-step g v (cells g - 1) (omega arith) in
+      let e : recv_of g (cells g - 1 + 1) ≡ recv_of g (cells g) = ap (recv_of g) (let z : cells g - 1 + 1 ≡ cells g = omega arith in z) in
+      let l = recv-last g v in let b = recv-below g v (cells g - 1) (omega arith) in omega arith;
 }
 
 -- the next cell is in the same piece, or in the next
@@ -76,33 +76,33 @@ piece-step g c inside =
     elim (cases_lt c (last_cell g i)) [
       | inl within ↦ let e = piece_of-inside g i (c + 1) h.inside (let l = h.low in omega arith) (omega arith) in (omega arith, omega arith)
       | inr end ↦
-        let last : last_cell g i ≡ c = (let u = h.high in omega arith) in
-        elim (cases_lt (i + 1) (pieces g)) [
-          | inl more ↦
-            let n = piece-next g i more in let o = piece-ordered g (i + 1) more in
-            let e = piece_of-inside g (i + 1) (c + 1) more (omega arith) (let q = o.0 in omega arith) in (omega arith, omega arith)
-          | inr none ↦ let e = piece-last g i (let q = h.inside in omega arith) in absurd (omega arith)
-        ]
+          let last : last_cell g i ≡ c = (let u = h.high in omega arith) in
+          elim (cases_lt (i + 1) (pieces g)) [
+            | inl more ↦
+                let n = piece-next g i more in let o = piece-ordered g (i + 1) more in
+                let e = piece_of-inside g (i + 1) (c + 1) more (omega arith) (let q = o.0 in omega arith) in (omega arith, omega arith)
+            | inr none ↦ let e = piece-last g i (let q = h.inside in omega arith) in absurd (omega arith)
+          ]
     ]
 
 pub piece-row : (g : Shape) → IsShape g → IsRow (piece_of g) (cells g) (pieces g)
 piece-row g v = record {
   some = cells-pos g v;
   first =
-    let h = piece_of-holds g 0 (cells-pos g v) in
-    elim (cases_lt 0 (piece_of g 0)) [
-      | inl more ↦ let o = pieces-order g 0 (piece_of g 0) more h.inside in let l = h.low in absurd (omega arith)
-      | inr none ↦ omega arith
-    ];
+      let h = piece_of-holds g 0 (cells-pos g v) in
+      elim (cases_lt 0 (piece_of g 0)) [
+        | inl more ↦ let o = pieces-order g 0 (piece_of g 0) more h.inside in let l = h.low in absurd (omega arith)
+        | inr none ↦ omega arith
+      ];
   rises = λ c inside. (piece-step g c inside).0;
   step = λ c inside. (piece-step g c inside).1;
   last =
-    let some = cells-pos g v in
-    let h = piece_of-holds g (cells g - 1) (omega arith) in
-    elim (cases_lt (piece_of g (cells g - 1) + 1) (pieces g)) [
-      | inl more ↦
-        let o = pieces-order g (piece_of g (cells g - 1)) (piece_of g (cells g - 1) + 1) (omega arith) more in
-        let q = piece-ordered g (piece_of g (cells g - 1) + 1) more in let u = h.high in let a = q.0 in let b = q.1 in absurd (omega arith)
-      | inr none ↦ let i = h.inside in omega arith
-    ];
+      let some = cells-pos g v in
+      let h = piece_of-holds g (cells g - 1) (omega arith) in
+      elim (cases_lt (piece_of g (cells g - 1) + 1) (pieces g)) [
+        | inl more ↦
+            let o = pieces-order g (piece_of g (cells g - 1)) (piece_of g (cells g - 1) + 1) (omega arith) more in
+            let q = piece-ordered g (piece_of g (cells g - 1) + 1) more in let u = h.high in let a = q.0 in let b = q.1 in absurd (omega arith)
+        | inr none ↦ let i = h.inside in omega arith
+      ];
 }
