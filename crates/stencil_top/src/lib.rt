@@ -1,5 +1,5 @@
-//! What the program does with a command line: from words, a shelf of files and two sinks to the status
-//! that it ends with.
+//! What the program does with a command line: from words, a shelf of files and two sinks to the
+//! status that it ends with.
 #![tactic(auto)]
 
 mod note;

@@ -6,6 +6,7 @@ ghost use Rattle.stencil_top.specs.Note.{status_of, message_of, note_text, Notes
 use crate::status::Status;
 use arrayvec::ArrayString;
 use part_io::Sink;
+use thiserror::Error;
 
 /// The most bytes of a note, without the LF.
 const MAX_MESSAGE: usize = 99;
@@ -14,19 +15,25 @@ const MAX_MESSAGE: usize = 99;
 const MAX_LINE: usize = 100;
 
 /// Why a run ends without its answers.
-#[derive(Clone, Copy, Debug, PartialEq, Eq)]
+#[derive(Clone, Copy, Debug, PartialEq, Eq, Error)]
 pub enum Note {
     /// The words are no command line of the program.
+    #[error("the words are no command line")]
     Usage,
     /// The script's file is longer than a script may be.
+    #[error("the script is too long")]
     TooLong,
     /// The script's text isn't of the accepted form.
+    #[error("the text is no script")]
     NotBuilt,
     /// The script's file could not be read, or isn't there.
+    #[error("the script could not be read")]
     CannotRead,
     /// The answers could not be written, or not all of them.
+    #[error("the answers could not be written")]
     CannotWrite,
     /// Memory ran out.
+    #[error("out of memory")]
     OutOfMemory,
 }
 

@@ -98,7 +98,8 @@ fn answer<H: Shelf, K: Sink>(
         Rose (H.faults shelf.old) (H.faults shelf.new) ⊎ LacksFile (H.files shelf.old) name) }
     ensures write { result ≡ Err Note.CannotWrite → HasAnswers (texts words.now) (H.files shelf.old)
         (AddsFront (K.written out.old) (K.written out.new)) }
-    ensures write_count { result ≡ Err Note.CannotWrite → Rose (K.faults out.old) (K.faults out.new) }
+    ensures write_count { result ≡ Err Note.CannotWrite →
+        Rose (K.faults out.old) (K.faults out.new) }
     ensures nothing { IfErr result (λ cause. cause ≢ Note.CannotWrite →
         K.written out.new ≡ K.written out.old) }
 
@@ -119,8 +120,8 @@ fn answer<H: Shelf, K: Sink>(
 
 /// Runs what the words ask for, and gives the status that the run ends with.
 ///
-/// The script's file is read from `shelf`, its answers go to `out`, and where the run ends without them a
-/// line goes to `note`. `NoMemory` may be the end of any run whose words read.
+/// The script's file is read from `shelf`, its answers go to `out`, and where the run ends without
+/// them a line goes to `note`. `NoMemory` may be the end of any run whose words read.
 pub fn run_serial<H: Shelf, K: Sink, N: Sink>(
     alloc: Global,
     words: &Vec<String>,
@@ -131,7 +132,8 @@ pub fn run_serial<H: Shelf, K: Sink, N: Sink>(
     ensures usage { (result ≡ Status.Usage) ↔ (reading (texts words.now) ≡ None) }
 
     // Where the files are told and nothing failed, there is one outcome beside a lack of memory.
-    ensures told { IfSome (H.files shelf.old) (λ files. ¬ Rose (H.faults shelf.old) (H.faults shelf.new)
+    ensures told { IfSome (H.files shelf.old) (λ files.
+        ¬ Rose (H.faults shelf.old) (H.faults shelf.new)
         → ¬ Rose (K.faults out.old) (K.faults out.new)
         → (result ≡ Status.NoMemory) ⊎ IsOutcome (outcome (texts words.now) files) result
         (K.written out.old) (K.written out.new) (N.written note.old) (N.written note.new)
@@ -144,7 +146,8 @@ pub fn run_serial<H: Shelf, K: Sink, N: Sink>(
         HasFile (H.files shelf.old) name (λ text. IsTooLong text ⊎ IsNotBuilt text)) }
     ensures read_fault { result ≡ Status.ReadFault → IsSomeAnd (reading (texts words.now)) (λ name.
         Rose (H.faults shelf.old) (H.faults shelf.new) ⊎ LacksFile (H.files shelf.old) name) }
-    ensures write_fault { result ≡ Status.WriteFault → HasAnswers (texts words.now) (H.files shelf.old)
+    ensures write_fault { result ≡ Status.WriteFault →
+        HasAnswers (texts words.now) (H.files shelf.old)
         (AddsFront (K.written out.old) (K.written out.new)) }
     ensures write_count { result ≡ Status.WriteFault → Rose (K.faults out.old) (K.faults out.new) }
     ensures nothing { result ≢ Status.Done → result ≢ Status.WriteFault →
