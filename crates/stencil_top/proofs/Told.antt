@@ -10,7 +10,7 @@ use Rattle.stencil_top.specs.Serial.{LacksFile, IsTooLong, IsNotBuilt, IsCause, 
 use Rattle.stencil_top.specs.declared.note.Note.{Note}
 use Rattle.stencil_top.specs.declared.note.Note.TheVariants.{Usage, TooLong, NotBuilt, CannotRead, CannotWrite, OutOfMemory}
 use Rattle.stencil_top.specs.declared.status.Status.{Status}
-use Rattle.stencil_top.specs.declared.status.Status.TheVariants.{NoMemory}
+use Rattle.stencil_top.specs.declared.status.Status.TheVariants.{NoMemory, WriteFault}
 use Rattle.stencil_top.proofs.Steps.{the_value}
 
 -- the outcome goes by the file
@@ -79,3 +79,12 @@ told (Some files) words R W cause status out out' line line' before now status_i
         noted = λ calm. subst (λ (o : Outcome). Adds line line' o.note) (sym e) (notes.whole calm);
       }
     ]
+
+-- the one cause whose status is that of a failed write
+pub is_write : (cause : Note) → status_of cause ≡ WriteFault → cause ≡ CannotWrite
+is_write Usage is = cc
+is_write TooLong is = cc
+is_write NotBuilt is = cc
+is_write CannotRead is = cc
+is_write CannotWrite is = refl
+is_write OutOfMemory is = cc
