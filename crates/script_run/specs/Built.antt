@@ -44,8 +44,8 @@ is_step send recv (Send i) = false
 is_step send recv (Recv i) = false
 is_step send recv (Start name) = bytes_eq name send || bytes_eq name recv
 is_step send recv (Ready name round partition bytes) = bytes_eq name send
-is_step send recv (Arrived name q) = false
-is_step send recv (Take name q) = false
+is_step send recv (Arrived name q) = bytes_eq name recv
+is_step send recv (Take name q) = bytes_eq name recv
 is_step send recv End = false
 
 abbrev pub is_end : Line → Bool

@@ -61,7 +61,12 @@ fn answer_step(
             let marked = pair.pready(*round, *partition, bytes.as_slice());
             texts::ready(alloc, marked)
         }
-        _ => unreachable!(),
+        Line::Arrived { q, .. } => texts::arrived(alloc, pair.parrived(*q)),
+        Line::Take { q, .. } => {
+            let taken = pair.take(*q);
+            texts::take(alloc, taken)
+        }
+        Line::World { .. } | Line::Send(_) | Line::Recv(_) | Line::End => unreachable!(),
     }
 }
 

@@ -95,7 +95,8 @@ fn is_step(send: &Name, recv: &Name, line: &Line) -> bool
     match line {
         Line::Start { name } => name.is_same(send) || name.is_same(recv),
         Line::Ready { name, .. } => name.is_same(send),
-        _ => false,
+        Line::Arrived { name, .. } | Line::Take { name, .. } => name.is_same(recv),
+        Line::World { .. } | Line::Send(_) | Line::Recv(_) | Line::End => false,
     }
 }
 

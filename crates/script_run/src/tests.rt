@@ -69,16 +69,22 @@ fn is_start(line: &Line, of: &[u8]) -> bool {
 #[test]
 fn each_line_is_read(rt: HostRuntime) -> Result<(), Fail> {
     let text =
-        b"world 2 4 2\nsend a 0 1 7 3 2 4\nrecv b 0 1 7 3 4 2\nstart a\nstart b\nready a 1 1 0aFf10B2\nready a 1 0 -\nend\n";
+        b"world 2 4 2\nsend a 0 1 7 3 2 4\nrecv b 0 1 7 3 4 2\nstart a\nstart b\nready a 1 1 0aFf10B2\nready a 1 0 -\narrived b 3\ntake b 2\nend\n";
     let script = parse_script(rt.alloc(), text)?;
     let lines = script.lines();
-    assert_eq!(rt; lines.len(), 8);
+    assert_eq!(rt; lines.len(), 10);
     assert!(rt; is_head(lines));
     assert!(rt; is_start(&lines[3], b"a"));
     assert!(rt; is_start(&lines[4], b"b"));
     assert!(rt; is_ready(&lines[5], b"a", [1, 1], &[10, 255, 16, 178]));
     assert!(rt; is_ready(&lines[6], b"a", [1, 0], &[]));
-    assert!(rt; matches!(lines[7], Line::End));
+    assert!(rt;
+        matches!(&lines[7], Line::Arrived { name, q: 3 } if name.as_slice() == b"b".as_slice())
+    );
+    assert!(rt;
+        matches!(&lines[8], Line::Take { name, q: 2 } if name.as_slice() == b"b".as_slice())
+    );
+    assert!(rt; matches!(lines[9], Line::End));
     Ok(())
 }
 
@@ -103,8 +109,6 @@ fn other_texts_are_refused(rt: HostRuntime) -> Result<(), Fail> {
         "ready b 1 0 ab\nend\n",
         "arrived a 0\nend\n",
         "test b\nend\n",
-        "arrived b 0\nend\n",
-        "take b 0\nend\n",
         "end\nend\n",
         "end\nstart a\n",
         "start a\n",
@@ -138,8 +142,8 @@ fn heads_have_limits(rt: HostRuntime) -> Result<(), Fail> {
 fn limits_are_reached(rt: HostRuntime) -> Result<(), Fail> {
     let bodies = [
         "ready a 1 0 -\nend\n",
-        "ready a 0000000000000000001 0 ab\nend\n",
-        "ready a 1 4294967295 ab\nend\n",
+        "arrived b 0000000000000000001\nend\n",
+        "arrived b 4294967295\nend\n",
     ];
     for body in bodies {
         assert_eq!(rt; count(rt.alloc(), HEAD, body)?, Some(5), "{body:?}");
@@ -181,11 +185,11 @@ fn the_receiver_starts_alone(rt: HostRuntime) -> Result<(), Fail> {
 }
 
 #[test]
-fn marks_are_run(rt: HostRuntime) -> Result<(), Fail> {
+fn a_round_is_run(rt: HostRuntime) -> Result<(), Fail> {
     let text =
-        b"world 2 1 1\nsend a 0 1 7 0 3 4\nrecv b 0 1 7 0 2 6\nready a 1 0 00010203\nstart a\nready a 1 1 04050607\nready a 1 0 00010203\nready a 2 2 00010203\nready a 1 0 00010203\nready a 1 3 00010203\nready a 1 2 -\nend\n";
+        b"world 2 1 1\nsend a 0 1 7 0 3 4\nrecv b 0 1 7 0 2 6\narrived b 0\ntake b 0\nstart a\nstart b\nready a 1 1 04050607\narrived b 0\nready a 1 0 00010203\narrived b 0\narrived b 1\ntake b 0\ntake b 0\ntake b 1\nready a 2 2 00010203\nready a 1 0 00010203\nready a 1 3 00010203\nready a 1 2 -\narrived b 2\ntake b 2\nready a 1 2 f0A9ffC3\ntake b 1\nend\n";
     let wanted =
-        b"ok\nok\nok\nrefused NotActive\nround 1\nmarked 2\nmarked 1\nrefused NotActive\nrefused AlreadyMarked\nrefused BadPartition\nrefused BadLength\npair a b started 1 0 released 0 pieces 3\n";
+        b"ok\nok\nok\nflag 1 idle\nrefused Idle\nround 1\nround 1\nmarked 2\nflag 0 piece 0\nmarked 1\nflag 1\nflag 0 piece 3\nbytes 000102030405\nrefused AlreadyTaken 1\nrefused NotYet 3\nrefused NotActive\nrefused AlreadyMarked\nrefused BadPartition\nrefused BadLength\nrefused BadPartition\nrefused BadPartition\nmarked 1\nbytes 0607f0a9ffc3\npair a b started 1 1 released 0 pieces 4\n";
     let got = answers(rt.alloc(), text)?;
     assert!(rt; got.as_slice() == wanted.as_slice());
     Ok(())

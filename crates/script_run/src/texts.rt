@@ -1,11 +1,11 @@
 //! The text of each answer.
 
 ghost use Rattle.std.specs.Prelude.{◌≡◌, ◌<◌, ◌++◌, string_bytes, IfOk, OnOk};
-ghost use Rattle.script_run.specs.Texts.{start_text, refusal_text, ready_text, arrived_text, hex_digit, hex_of, untaken_text, bytes_text, closed_text, end_text};
+ghost use Rattle.script_run.specs.Texts.{start_text, refusal_text, ready_text, arrived_text, hex_digit, hex_of, untaken_text, bytes_text, take_text, closed_text, end_text};
 
 use crate::line::Name;
 use part_geometry::{Marked, StartFault};
-use plain_pair::{PlainClosed, PlainLook, PlainRefusal, PlainTake};
+use plain_pair::{PlainArrival, PlainClosed, PlainLook, PlainRefusal, PlainTake};
 use std::alloc::{AllocError, Global};
 
 /// The text of what a start answers.
@@ -98,6 +98,19 @@ fn bytes(alloc: Global, bytes: &[u8]) -> Result<String, AllocError>
     let mut text = String::from_str(alloc, "bytes ")?;
     push_hex(&mut text, bytes)?;
     Ok(text)
+}
+
+/// The text of what a take answers.
+pub(crate) fn take(
+    alloc: Global,
+    answer: Result<PlainArrival, PlainTake>,
+) -> Result<String, AllocError>
+    ensures { IfOk result (λ text. string_bytes text ≡ take_text answer) }
+{
+    match answer {
+        Ok(arrival) => bytes(alloc, arrival.as_slice()),
+        Err(cause) => untaken(alloc, cause),
+    }
 }
 
 /// The text of how far a pair came.
