@@ -2,9 +2,10 @@
 
 use crate::{PlainLook, PlainPair, PlainRefusal, PlainTake};
 use part_geometry::{Geometry, StartFault};
+use std::process::Abort;
 
 /// A pair of 3 send partitions of 4 bytes and 2 receive partitions of 6 bytes, with a round started on both sides.
-fn started(rt: &HostRuntime, grain: u32, depth: u32) -> PlainPair {
+fn started<R: Abort + AllocGlobal>(rt: &R, grain: u32, depth: u32) -> PlainPair {
     let geometry = Geometry::new(3, 4, 2, 6, grain, depth).expect(rt, "within the limits");
     let mut pair = PlainPair::create(rt.alloc(), geometry).expect(rt, "enough memory");
     assert_eq!(rt; pair.start_send(), Ok(1));
@@ -37,7 +38,7 @@ fn a_take_has_the_bytes_of_its_partition(rt: HostRuntime) {
     pair.pready(1, 1, b"efgh").expect(&rt, "unmarked");
     assert_eq!(rt; pair.parrived(0), PlainLook::Arrived);
     let taken = pair.take(0).expect(&rt, "arrived");
-    assert_eq!(rt; taken.as_slice(), b"abcdef");
+    assert_eq!(rt; taken.as_slice(), b"abcdef".as_slice());
     assert_eq!(rt;
         pair.take(0).err(),
         Some(PlainTake::AlreadyTaken { round: 1 })
@@ -57,7 +58,7 @@ fn a_refused_mark_changes_nothing(rt: HostRuntime) {
     );
     pair.pready(1, 1, b"efgh").expect(&rt, "unmarked");
     let taken = pair.take(1).expect(&rt, "arrived");
-    assert_eq!(rt; taken.as_slice(), b"ghijkl");
+    assert_eq!(rt; taken.as_slice(), b"ghijkl".as_slice());
 }
 
 #[test]
