@@ -1,0 +1,5 @@
+pub mod Words
+pub mod Status
+pub mod Note
+pub mod Outcome
+pub mod Serial

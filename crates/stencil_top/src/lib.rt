@@ -1,0 +1,14 @@
+//! What the program does with a command line: from words, a shelf of files and two sinks to the
+//! status that it ends with.
+#![tactic(auto)]
+
+mod note;
+mod serial;
+mod status;
+
+pub use note::{Note, line_of, tell};
+pub use serial::run_serial;
+pub use status::Status;
+
+#[cfg(test)]
+mod tests;
