@@ -5,3 +5,4 @@ pub mod Steps
 pub mod Bodies
 pub mod Made
 pub mod Heads
+pub mod Shown
