@@ -1,7 +1,8 @@
-// Why a call at the edge did not do what it was asked.
+//! Why a call at the edge did not do what it was asked.
+
 ghost use Rattle.std.specs.Prelude.{◌≡◌};
 
-use std::alloc::{AllocError, AllocFailed};
+use std::alloc::AllocError;
 use thiserror::Error;
 
 /// Why a read gives no bytes.
@@ -38,20 +39,3 @@ impl From<AllocError> for ReadAnswer {
 #[derive(Clone, Copy, Debug, PartialEq, Eq, Error)]
 #[error("the output could not be written")]
 pub struct Failed;
-
-/// There is no memory for what was to be kept.
-#[derive(Clone, Copy, Debug, PartialEq, Eq, Error)]
-#[error("out of memory")]
-pub struct NoMemory;
-
-impl From<AllocError> for NoMemory {
-    fn from(_: AllocError) -> NoMemory {
-        NoMemory
-    }
-}
-
-impl<T: Drop> From<AllocFailed<T>> for NoMemory {
-    fn from(_: AllocFailed<T>) -> NoMemory {
-        NoMemory
-    }
-}

@@ -13,7 +13,7 @@ mod steady_shelf;
 mod steady_sink;
 mod streams;
 
-pub use answers::{Failed, NoMemory, ReadAnswer};
+pub use answers::{Failed, ReadAnswer};
 pub use file_shelf::FileShelf;
 pub use shelf::Shelf;
 pub use sink::Sink;

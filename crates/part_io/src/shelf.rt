@@ -1,4 +1,5 @@
-// What the program reads from.
+//! What the program reads from.
+
 ghost use Rattle.std.specs.Prelude.{◌≡◌, ◌≤◌, ℕ, List, Option, IfOk, vec_len};
 ghost use Rattle.part_io.specs.Shelf.{Reads, HasReadCause};
 

@@ -1,4 +1,5 @@
-// What the program writes to.
+//! What the program writes to.
+
 ghost use Rattle.std.specs.Prelude.{ℕ, List, Option};
 ghost use Rattle.part_io.specs.Causes.{HasCause};
 ghost use Rattle.part_io.specs.Sink.{Writes};

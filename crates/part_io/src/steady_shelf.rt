@@ -1,7 +1,8 @@
-// A shelf in memory.
+//! A shelf in memory.
+
 ghost use Rattle.std.specs.Prelude.{◌≡◌, None, Some, OnOk, OnErr};
 
-use crate::{NoMemory, ReadAnswer, Shelf};
+use crate::{ReadAnswer, Shelf};
 use std::alloc::{AllocError, Global};
 use std::collections::BTreeMap;
 
@@ -28,7 +29,7 @@ impl SteadyShelf {
     /// Adds a file, or puts these bytes in the place of those of that name.
     ///
     /// Where there is no memory, the shelf stays as it was.
-    pub fn put(&mut self, name: &str, bytes: &[u8]) -> Result<(), NoMemory>
+    pub fn put(&mut self, name: &str, bytes: &[u8]) -> Result<(), AllocError>
         ensures ok { OnOk result (Puts (held self.old) (held self.new) name.now bytes.now) }
         ensures err { OnErr result (held self.new ≡ held self.old) }
     {

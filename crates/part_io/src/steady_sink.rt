@@ -1,10 +1,11 @@
-// A sink in memory, of a room that is taken when it is made.
+//! A sink in memory, of a room that is taken when it is made.
+
 ghost use Rattle.std.specs.Prelude.{◌≡◌, ◌≤◌, ◌+◌, ◌-◌, ◌^◌, ◌↔◌, ◌++◌, [], Some, min, length, take, IfOk, IsOk, OnErr, vec_len, vec_capacity};
 ghost use Rattle.part_io.specs.Causes.{HasCause};
 ghost use Rattle.part_io.specs.Sink.{Writes};
 
-use crate::{Failed, NoMemory, Sink};
-use std::alloc::Global;
+use crate::{Failed, Sink};
+use std::alloc::{AllocError, Global};
 
 /// A sink in memory, which tells what was written. It takes its room when it is made, so that only
 /// a piece that does not fit into what is left fails.
@@ -20,7 +21,7 @@ impl SteadySink {
     ghost use Rattle.part_io.specs.SteadySink.{sink_bytes, room_left, sink_faults};
 
     /// An empty sink with room for this many bytes.
-    pub fn new(alloc: Global, room: u32) -> Result<SteadySink, NoMemory>
+    pub fn new(alloc: Global, room: u32) -> Result<SteadySink, AllocError>
         ensures empty { IfOk result (λ sink. sink_bytes sink ≡ []) }
         ensures room { IfOk result (λ sink. room_left sink ≡ room) }
         ensures faults { IfOk result (λ sink. sink_faults sink ≡ 0) }

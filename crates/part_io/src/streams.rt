@@ -1,4 +1,5 @@
-// Sinks over the standard output and the standard error.
+//! Sinks over the standard output and the standard error.
+
 ghost use Rattle.std.specs.Prelude.{◌≡◌, ◌≤◌, ℕ, None, OnOk, OnErr, length, take};
 ghost use Rattle.std.specs.Io.KnownBytes.{Appends};
 ghost use Rattle.part_io.specs.Causes.{HasCause};
