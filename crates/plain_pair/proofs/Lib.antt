@@ -17,3 +17,5 @@ pub mod Refusals
 pub mod Overs
 pub mod Looks
 pub mod Takes
+pub mod Backs
+pub mod Tests

@@ -1,7 +1,9 @@
 -- Rounds in flight have places of their own.
 use Rattle.std.proofs.Common.{◌≡◌, ◌≢◌, ◌⊎◌, ℕ, ◌+◌, ◌*◌, ◌/◌, ◌%◌, ◌<◌, ◌≤◌, sym, arith, inl, inr}
-use Rattle.std.proofs.lemmas.Nat.{mul-le}
+use Rattle.std.proofs.lemmas.Nat.{mul-le, mod_below}
 use Rattle.std.proofs.lemmas.Bool.{cases_lt, cases_order}
+use Rattle.part_geometry.specs.Shape.{Shape, IsShape}
+use Rattle.plain_pair.specs.Kept.{buffer_place}
 
 -- two numbers less than d apart with one remainder are one
 below_apart : (a b d : ℕ) → 0 < d → a < b → b < a + d → a % d ≡ b % d → a ≡ b
@@ -31,3 +33,11 @@ places_apart a b q n other inside =
         | inr more ↦ let h : (b + 1) * n ≤ a * n = mul-le (b + 1) n a n (omega arith) (omega arith) in inl (omega arith)
       ]
     ]
+
+-- the buffer of a receive partition at the place of a round is among all of them
+pub place_inside : (g : Shape) → IsShape g → (k q : ℕ) → q < g.recv_parts → buffer_place g k q < g.depth * g.recv_parts
+place_inside g v k q inside =
+    let pos : 0 < g.depth = omega (arith, v.depth.0) in
+    let place : k % g.depth < g.depth = mod_below k g.depth pos in
+    let h : (k % g.depth + 1) * g.recv_parts ≤ g.depth * g.recv_parts = mul-le (k % g.depth + 1) g.recv_parts g.depth g.recv_parts (omega arith) (omega arith) in
+    omega arith

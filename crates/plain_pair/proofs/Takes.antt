@@ -53,7 +53,7 @@ not_back k missing q s m =
     ]
 
 -- two places of buffers are one only where both the place and the partition are
-one_place : (a b q x n : ℕ) → q < n → x < n → a * n + x ≡ b * n + q → (a ≡ b) × (x ≡ q)
+pub one_place : (a b q x n : ℕ) → q < n → x < n → a * n + x ≡ b * n + q → (a ≡ b) × (x ≡ q)
 one_place a b q x n low high same =
     let e : (a * n + x) / n ≡ (b * n + q) / n = ap (λ z. z / n) same in
     let f : (a * n + x) % n ≡ (b * n + q) % n = ap (λ z. z % n) same in

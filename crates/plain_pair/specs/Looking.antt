@@ -1,5 +1,5 @@
 -- What has arrived, by what is kept, and what a take does.
-use Rattle.std.specs.Prelude.{◌≡◌, ℕ, ◌<◌, Bool, true, false, ◌&&◌, ◌||◌, ◌==◌, not, nat_lt, if◌then◌else◌, Option, Result, Ok, Err, find}
+use Rattle.std.specs.Prelude.{◌≡◌, ℕ, ◌<◌, Bool, true, false, ◌&&◌, ◌||◌, ◌==◌, not, nat_lt, if◌then◌else◌, Option, Result, Ok, Err, find, length}
 use Rattle.std.specs.List.{range_with_len}
 use Rattle.std.specs.Option.{option_map_or}
 use Rattle.part_geometry.specs.Pieces.{pieces}
@@ -36,3 +36,12 @@ pub record CanTake (k : Kept) (q : ℕ) : Type 0 where
 -- the take gives what the records say, and the pair stands for the records with the take
 abbrev pub Takes : Kept → Kept → ℕ → Taken → Type 0
 Takes old new q taken = (r : Record) → StandsFor old r → (taken ≡ taken_of old.shape r q) × StandsFor new (took r q)
+
+-- what may be given back: it was taken in the receiver's round, and isn't back yet
+pub record IsOut (k : Kept) (taken : Taken) : Type 0 where
+  pub active : k.receiving ≡ true
+  pub round : taken.round ≡ k.received
+  pub inside : taken.partition < k.shape.recv_parts
+  pub size : length taken.bytes ≡ k.shape.recv_bytes
+  pub was_taken : has k.taken taken.partition ≡ true
+  pub away : has k.back taken.partition ≡ false

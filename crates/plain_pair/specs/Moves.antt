@@ -1,9 +1,12 @@
 -- What each call answers by the record, and the record after it.
-use Rattle.std.specs.Prelude.{ℕ, ◌+◌, ◌-◌, Bool, true, ◌&&◌, ◌==◌, not, nat_lt, if◌then◌else◌, Result, Ok, Err, is_ok, List, [], ◌∷◌, ◌++◌, length, slice_set}
+use Rattle.std.specs.Prelude.{ℕ, ◌+◌, ◌-◌, Bool, true, false, ◌&&◌, ◌==◌, not, nat_lt, if◌then◌else◌, Result, Ok, Err, is_ok, List, [], ◌∷◌, ◌++◌, length, slice_set, Option, find}
+use Rattle.std.specs.List.{range_with_len}
 use Rattle.std.specs.Option.{option_map_or}
 use Rattle.std.specs.FinMap as rounds
 use Rattle.std.specs.FinSet as parts
 use Rattle.part_geometry.specs.declared.answers.Marked.{Marked}
+use Rattle.part_geometry.specs.declared.answers.RecvTest.{RecvTest}
+use Rattle.part_geometry.specs.declared.answers.RecvTest.TheVariants as recv
 use Rattle.part_geometry.specs.declared.answers.StartFault.{StartFault}
 use Rattle.part_geometry.specs.declared.answers.StartFault.TheVariants.{AlreadyActive, RoundsSpent}
 use Rattle.part_geometry.specs.Shape.{Shape}
@@ -11,6 +14,8 @@ use Rattle.plain_pair.specs.declared.answers.PlainLook.{PlainLook}
 use Rattle.plain_pair.specs.declared.answers.PlainLook.TheVariants as look
 use Rattle.plain_pair.specs.declared.answers.PlainRefusal.{PlainRefusal}
 use Rattle.plain_pair.specs.declared.answers.PlainRefusal.TheVariants.{BadPartition, BadLength, NotActive, AlreadyMarked}
+use Rattle.plain_pair.specs.declared.answers.PlainSendTest.{PlainSendTest}
+use Rattle.plain_pair.specs.declared.answers.PlainSendTest.TheVariants as send
 use Rattle.plain_pair.specs.declared.answers.PlainTake.{PlainTake}
 use Rattle.plain_pair.specs.declared.answers.PlainTake.TheVariants as take
 use Rattle.plain_pair.specs.Taken.{Taken}
@@ -89,3 +94,35 @@ take_answer g r q =
 
 abbrev pub after_take : Shape → Record → ℕ → Record
 after_take g r q = on_ok (take_answer g r q) (took r q) r
+
+-- the least of n partitions that isn't among those of a test
+abbrev pub least_without : ℕ → (ℕ → Bool) → Option ℕ
+least_without n among = find (λ x. not (among x)) (range_with_len 0 n)
+
+-- a test of the send: the least partition that isn't marked, and then whether the next round has room
+abbrev pub test_send_answer : Shape → Record → PlainSendTest
+test_send_answer g r =
+    if not r.sending then send.Idle else
+    option_map_or send.Unmarked (least_without g.send_parts (is_marked (round_of r (send_round r))))
+    (if nat_lt (send_round r) (r.released + g.depth) then send.Done else send.Unreleased r.released)
+
+abbrev pub sent_done : PlainSendTest → Record → Record
+sent_done send.Done r = record r { sending = false }
+sent_done _ r = r
+
+abbrev pub after_test_send : Shape → Record → Record
+after_test_send g r = sent_done (test_send_answer g r) r
+
+-- a test of the receive: the least partition that isn't taken, and then the least that isn't given back
+abbrev pub test_recv_answer : Shape → Record → RecvTest
+test_recv_answer g r =
+    if not r.receiving then recv.Idle else
+    option_map_or recv.Untaken (least_without g.recv_parts (parts.contains r.taken))
+    (option_map_or recv.Out (least_without g.recv_parts (parts.contains r.back)) recv.Done)
+
+abbrev pub received_done : RecvTest → Record → Record
+received_done recv.Done r = record r { released = r.received; receiving = false }
+received_done _ r = r
+
+abbrev pub after_test_recv : Shape → Record → Record
+after_test_recv g r = received_done (test_recv_answer g r) r

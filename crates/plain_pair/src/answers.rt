@@ -52,3 +52,16 @@ pub enum PlainTake {
     #[error("piece {piece} isn't out yet")]
     NotYet { piece: u32 },
 }
+
+/// What a test of the send answers (`MPI_Test` of a partitioned send, MPI 4.0, 4.2.2).
+#[derive(Clone, Copy, Debug, PartialEq, Eq)]
+pub enum PlainSendTest {
+    /// The sender is inactive.
+    Idle,
+    /// This send partition, the least such one, isn't marked yet.
+    Unmarked { partition: u32 },
+    /// All are marked, and as many rounds as the depth are in flight after this released one.
+    Unreleased { released: u32 },
+    /// All are marked, and the next round has room: the side is inactive.
+    Done,
+}

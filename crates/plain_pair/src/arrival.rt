@@ -33,6 +33,13 @@ impl PlainArrival {
         }
     }
 
+    /// The bytes alone.
+    pub(crate) fn into_buffer(self) -> Buffer
+        ensures { result ≡ self.bytes }
+    {
+        self.buffer
+    }
+
     /// The round that it was taken in.
     pub fn round(&self) -> u32
         ensures { result ≡ self.now.round }

@@ -98,3 +98,11 @@ pub(crate) fn take_at(buffers: &mut Vec<Buffer>, index: usize) -> Buffer
     let alloc = *buffers.allocator();
     mem::replace(&mut buffers[index], Buffer::empty(alloc))
 }
+
+/// Puts a buffer in the place of another.
+pub(crate) fn put_at(buffers: &mut Vec<Buffer>, index: usize, buffer: Buffer)
+    requires { index < length buffers.old.items }
+    ensures { buffers.new.items ≡ slice_set buffers.old.items index buffer }
+{
+    buffers[index] = buffer;
+}

@@ -1,6 +1,7 @@
 //! One truth value for each partition, and one count for each piece.
 
-ghost use Rattle.std.specs.Prelude.{◌≡◌, ◌+◌, ◌-◌, ◌*◌, ◌≤◌, ◌==◌, if◌then◌else◌, count_by, Bool, false, length, replicate, slice_set, true, ◌<◌, IfOk};
+ghost use Rattle.std.specs.Prelude.{slice_index_or, ◌≡◌, ◌+◌, ◌-◌, ◌*◌, ◌≤◌, ◌==◌, if◌then◌else◌, count_by, Bool, false, length, replicate, slice_set, true, ◌<◌, IfOk};
+ghost use Rattle.plain_pair.specs.Moves.{least_without};
 
 use std::alloc::{AllocError, Global};
 
@@ -52,4 +53,17 @@ pub(crate) fn add(flags: &mut Vec<bool>, partition: usize)
     ensures { flags.new.items ≡ slice_set flags.old.items partition true }
 {
     flags[partition] = true;
+}
+
+/// The least partition that isn't among these.
+pub(crate) fn least_without(flags: &[bool]) -> Option<u32>
+    requires { length flags.now ≤ 1024 }
+    ensures { result ≡ least_without (length flags.now) (λ x. slice_index_or flags.now x false) }
+{
+    for i in 0..flags.len() {
+        if !flags[i] {
+            return Some(i as u32);
+        }
+    }
+    None
 }

@@ -11,6 +11,6 @@ mod tables;
 #[cfg(test)]
 mod tests;
 
-pub use answers::{PlainLook, PlainRefusal, PlainTake};
+pub use answers::{PlainLook, PlainRefusal, PlainSendTest, PlainTake};
 pub use arrival::PlainArrival;
 pub use pair::{LAST_ROUND, PlainClosed, PlainPair};

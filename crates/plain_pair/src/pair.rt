@@ -3,13 +3,13 @@
 ghost use Rattle.std.specs.Prelude.{◌≡◌, ◌<◌, ◌≤◌, None, length, IfOk};
 ghost use Rattle.plain_pair.specs.Moves.{start_answer};
 
-use crate::answers::{PlainLook, PlainRefusal, PlainTake};
+use crate::answers::{PlainLook, PlainRefusal, PlainSendTest, PlainTake};
 use crate::arrival::PlainArrival;
-use crate::buffer::{Buffer, take_at, zero_buffers};
-use crate::flags::{add, all_missing, clear, none_of, pieces_out, reset};
+use crate::buffer::{Buffer, put_at, take_at, zero_buffers};
+use crate::flags::{add, all_missing, clear, least_without, none_of, pieces_out, reset};
 use crate::marking::{count_down, first_missing, store};
 use crate::tables::Tables;
-use part_geometry::{Geometry, Marked, StartFault};
+use part_geometry::{Geometry, Marked, RecvTest, StartFault};
 use std::alloc::{AllocError, Global};
 use std::marker::Model;
 
@@ -74,9 +74,10 @@ fn next_round(active: bool, round: u32) -> Result<u32, StartFault>
 
 impl PlainPair {
     ghost use Rattle.plain_pair.specs.Record.{first_record};
-    ghost use Rattle.plain_pair.specs.Moves.{start_send_answer, after_start_send, start_recv_answer, after_start_recv, pready_answer, after_pready, parrived_answer, take_answer, after_take};
+    ghost use Rattle.plain_pair.specs.Moves.{start_send_answer, after_start_send, start_recv_answer, after_start_recv, pready_answer, after_pready, parrived_answer, take_answer, after_take, gave_back, test_send_answer, after_test_send, test_recv_answer, after_test_recv};
     ghost use Rattle.plain_pair.specs.Closing.{closed_answer};
-    ghost use Rattle.plain_pair.specs.Looking.{CanTake, Takes, kept_missing, take_refusal};
+    ghost use Rattle.plain_pair.specs.Kept.{buffer_place};
+    ghost use Rattle.plain_pair.specs.Looking.{CanTake, IsOut, Takes, kept_missing, take_refusal};
     ghost use Rattle.plain_pair.specs.Marking.{CanMark, Marks, refusal};
     ghost use Rattle.plain_pair.specs.StandsFor.{StandsFor, Follows};
 
@@ -272,6 +273,17 @@ impl PlainPair {
         }
     }
 
+    /// The place of the buffer of receive partition `q` in the receiver's round.
+    fn recv_place(&self, q: usize) -> usize
+        requires { q < self.now.shape.recv_parts }
+        ensures place { result ≡ buffer_place self.now.shape self.now.received q }
+        ensures inside { result < length self.now.buffers }
+    {
+        let geometry = self.tables.geometry();
+        let place = (self.received % geometry.depth()) as usize;
+        place * geometry.recv_parts() as usize + q
+    }
+
     /// Takes a partition that has arrived and isn't taken.
     fn take_out(&mut self, q: u32) -> PlainArrival
         requires free { CanTake self.old q }
@@ -279,11 +291,67 @@ impl PlainPair {
         ensures shape { self.new.shape ≡ self.old.shape }
         ensures takes { Takes self.old self.new q result }
     {
-        let geometry = self.tables.geometry();
-        let place = (self.received % geometry.depth()) as usize;
-        let index = place * geometry.recv_parts() as usize + q as usize;
+        let index = self.recv_place(q as usize);
         let buffer = take_at(&mut self.buffers, index);
         add(&mut self.taken, q as usize);
         PlainArrival::new(self.received, q, buffer)
+    }
+
+    /// Gives a partition back that was taken from this pair in the receiver's round. Its buffer serves a later
+    /// round.
+    pub fn give_back(&mut self, arrival: PlainArrival)
+        requires { IsOut self.old arrival }
+        ensures shape { self.new.shape ≡ self.old.shape }
+        ensures back { (r : _) → StandsFor self.old r → StandsFor self.new (gave_back r arrival.partition) }
+    {
+        let q = arrival.partition() as usize;
+        let index = self.recv_place(q);
+        put_at(&mut self.buffers, index, arrival.into_buffer());
+        add(&mut self.back, q);
+    }
+
+    /// Tests the send (`MPI_Test`, MPI 4.0, 4.2.2). Where all partitions are marked and the next round has room, the
+    /// side becomes inactive; with every other answer nothing changes.
+    pub fn test_send(&mut self) -> PlainSendTest
+        ensures shape { self.new.shape ≡ self.old.shape }
+        ensures answer { Follows self.old self.new result
+            (λ r. test_send_answer self.old.shape r) (λ r. after_test_send self.old.shape r) }
+    {
+        let geometry = self.tables.geometry();
+        if !self.sending {
+            return PlainSendTest::Idle;
+        }
+        if let Some(partition) = least_without(&self.marked) {
+            return PlainSendTest::Unmarked { partition };
+        }
+        if self.sent >= self.released + geometry.depth() {
+            return PlainSendTest::Unreleased {
+                released: self.released,
+            };
+        }
+        self.sending = false;
+        PlainSendTest::Done
+    }
+
+    /// Tests the receive (`MPI_Test`, MPI 4.0, 4.2.2). Where all partitions were taken and given back, the round is
+    /// released and the side becomes inactive; with every other answer nothing changes.
+    pub fn test_recv(&mut self) -> RecvTest
+        ensures shape { self.new.shape ≡ self.old.shape }
+        ensures answer { Follows self.old self.new result
+            (λ r. test_recv_answer self.old.shape r) (λ r. after_test_recv self.old.shape r) }
+    {
+        let _tables = &self.tables;
+        if !self.receiving {
+            return RecvTest::Idle;
+        }
+        if let Some(q) = least_without(&self.taken) {
+            return RecvTest::Untaken { q };
+        }
+        if let Some(q) = least_without(&self.back) {
+            return RecvTest::Out { q };
+        }
+        self.released = self.received;
+        self.receiving = false;
+        RecvTest::Done
     }
 }

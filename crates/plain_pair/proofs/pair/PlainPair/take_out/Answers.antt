@@ -6,12 +6,12 @@ use Rattle.plain_pair.proofs.pair.PlainPair.take_out.Goals as goal
 
 pub invariant_of-self : goal.invariant_of-self
 invariant_of-self c =
-    rw (c.add.ensures, c.take_at-buffer.ensures.left, c.recv_parts.ensures.value, c.depth.ensures.value, c.geometry-geometry.ensures.value)
+    rw (c.add.ensures, c.take_at-buffer.ensures.left, c.recv_place-index.ensures.place, ← c.self.view_is)
     (sound_take (kept_of c.self.inside) _ c.args.q c.self.invariant (subst (λ k. CanTake k c.args.q) (sym c.self.view_is) c.requires.free)
-    (subst (λ k. kept_missing k c.args.q ≡ None) (sym c.self.view_is) c.requires.arrived))
+      (subst (λ k. kept_missing k c.args.q ≡ None) (sym c.self.view_is) c.requires.arrived))
 
 pub returns-clause-takes : goal.returns-clause-takes
 returns-clause-takes c =
-    rw (← c.self.view_is, c.add.ensures, c.take_at-buffer.ensures.left, c.new.ensures, c.take_at-buffer.ensures.taken, c.recv_parts.ensures.value, c.depth.ensures.value, c.geometry-geometry.ensures.value)
+    rw (← c.self.view_is, c.add.ensures, c.take_at-buffer.ensures.left, c.new.ensures, c.take_at-buffer.ensures.taken, c.recv_place-index.ensures.place, ← c.self.view_is)
     (takes (kept_of c.self.inside) _ c.args.q c.self.invariant (subst (λ k. CanTake k c.args.q) (sym c.self.view_is) c.requires.free)
-    (subst (λ k. kept_missing k c.args.q ≡ None) (sym c.self.view_is) c.requires.arrived))
+      (subst (λ k. kept_missing k c.args.q ≡ None) (sym c.self.view_is) c.requires.arrived))
