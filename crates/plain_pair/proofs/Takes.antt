@@ -16,7 +16,7 @@ use Rattle.plain_pair.specs.Record.{Record, round_of, pieces_out, byte_at, bytes
 use Rattle.plain_pair.specs.Moves.{taken_of, took, take_answer, after_take}
 use Rattle.plain_pair.specs.Kept.{Kept, has, kept_byte, was_taken, kept_out, buffer_place}
 use Rattle.plain_pair.specs.Sound.{IsSound, HasRounds, is_away}
-use Rattle.plain_pair.specs.Looking.{CanTake, Takes, kept_missing, take_refusal}
+use Rattle.plain_pair.specs.Looking.{CanTake, IsOut, Takes, kept_missing, take_refusal}
 use Rattle.plain_pair.specs.StandsFor.{StandsFor, Follows}
 use Rattle.plain_pair.proofs.Touching.{has-set, has-set_other, has-set_same}
 use Rattle.plain_pair.proofs.Places.{one_turn}
@@ -211,6 +211,22 @@ takes k missing q s m none r st =
           ∙ ap (λ b. record { round = r.received; partition = q; bytes = b }) bytes,
       stands_take k missing r q s m st,
     )
+
+-- what was taken may be given back
+pub is_out : (k : Kept) (missing : List ℕ) (q : ℕ) → IsSound k missing → CanTake k q
+    → IsOut (taken_kept k q) record { round = k.received; partition = q; bytes = get_or k.buffers (place_of k q) [] }
+is_out k missing q s m =
+    let g = k.shape in
+    let there : q < length k.taken = (let e = s.sizes.taken_size in let i = m.inside in omega arith) in
+    let place : k.received % g.depth < g.depth = mod_below k.received g.depth (omega (arith, s.shape.depth.0)) in
+    record {
+      active = m.active;
+      round = refl;
+      inside = m.inside;
+      size = s.sizes.full (k.received % g.depth) q place m.inside (and_right _ _ (and_left (has k.taken q) (not (has k.back q)) m.free));
+      was_taken = has-set_same k.taken q there;
+      away = not_back k missing q s m;
+    }
 
 -- what a take answers, by its refusal
 abbrev pub take_by : Result (Unit {0}) PlainTake → Taken → Result Taken PlainTake

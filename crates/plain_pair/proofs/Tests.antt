@@ -3,7 +3,7 @@ use Rattle.std.proofs.Common.{◌≡◌, ◌≢◌, ℕ, ◌+◌, ◌-◌, ◌*�
 use Rattle.std.specs.FinSet as parts
 use Rattle.std.specs.List.{range_with_len}
 use Rattle.std.specs.Option.{option_map_or}
-use Rattle.std.proofs.lemmas.Bool.{cases_Bool, ne_eqb, and_left, and_right, not-false, false≢true}
+use Rattle.std.proofs.lemmas.Bool.{cases_Bool, lt-ltb, le-ltb, ne_eqb, and_left, and_right, not-false, false≢true}
 use Rattle.std.proofs.lemmas.Nat.{mul-le, div-mul-add}
 use Rattle.std.proofs.Math.Nat.{div-lt_iff_lt-mul}
 use Rattle.part_geometry.specs.declared.answers.RecvTest.{RecvTest}
@@ -37,12 +37,12 @@ test_send_is k missing r s st =
     elim (cases_Bool k.sending) [
       | inr idle ↦ rw (← st.sending, idle) refl
       | inl active ↦
-        let same : least_without k.shape.send_parts (is_marked (round_of r k.sent)) ≡ least_without (length k.marked) (has k.marked) =
-            ap (λ n. least_without n (is_marked (round_of r k.sent))) (sym s.sizes.marked_size)
-            ∙ find-same (λ x. not (is_marked (round_of r k.sent) x)) (λ x. not (has k.marked x)) (length k.marked) 0
-              (λ x low high. ap not (sym (marks_now k missing r s st (s.rounds.begun active) x (let e = s.sizes.marked_size in omega arith)))) in
-        rw (← st.sending, active, ← st.sent, ← st.released)
-        (ap (λ o. option_map_or send.Unmarked o (if nat_lt k.sent (k.released + k.shape.depth) then send.Done else send.Unreleased k.released)) same)
+          let same : least_without k.shape.send_parts (is_marked (round_of r k.sent)) ≡ least_without (length k.marked) (has k.marked) =
+          ap (λ n. least_without n (is_marked (round_of r k.sent))) (sym s.sizes.marked_size)
+          ∙ find-same (λ x. not (is_marked (round_of r k.sent) x)) (λ x. not (has k.marked x)) (length k.marked) 0
+          (λ x low high. ap not (sym (marks_now k missing r s st (s.rounds.begun active) x (let e = s.sizes.marked_size in omega arith)))) in
+          rw (← st.sending, active, ← st.sent, ← st.released)
+          (ap (λ o. option_map_or send.Unmarked o (if nat_lt k.sent (k.released + k.shape.depth) then send.Done else send.Unreleased k.released)) same)
     ]
 
 pub follows_unmarked : (k : Kept) (missing : List ℕ) (p : ℕ) → IsSound k missing → kept_test_send k ≡ send.Unmarked p
@@ -205,7 +205,7 @@ sound_received k missing s active none none_out =
         buffers_size = s.sizes.buffers_size;
         full = λ place q low high away. s.sizes.full place q low high
             (and_right (k.receiving && (place == k.received % g.depth)) _ (and_right (has k.taken q) _
-              (ap not (each_among (length k.back) (has k.back) none_out q (let e = s.sizes.back_size in omega arith)))));
+            (ap not (each_among (length k.back) (has k.back) none_out q (let e = s.sizes.back_size in omega arith)))));
       };
       rounds = record {
         sent = s.rounds.sent;
@@ -223,3 +223,26 @@ sound_received k missing s active none none_out =
       arrived = λ e. absurd (false≢true e);
       returned = s.returned;
     }
+
+-- the cases of the tests
+pub at_unmarked : (k : Kept) (p : ℕ) → k.sending ≡ true → Some p ≡ least_without (length k.marked) (has k.marked) → kept_test_send k ≡ send.Unmarked p
+at_unmarked k p active found = rw (active, ← found) refl
+
+pub at_unreleased : (k : Kept) → k.sending ≡ true → None ≡ least_without (length k.marked) (has k.marked) → k.released + k.shape.depth ≤ k.sent
+    → kept_test_send k ≡ send.Unreleased k.released
+at_unreleased k active none full = rw (active, ← none, le-ltb k.sent (k.released + k.shape.depth) full) refl
+
+pub at_sent : (k : Kept) → k.sending ≡ true → None ≡ least_without (length k.marked) (has k.marked) → k.sent < k.released + k.shape.depth
+    → kept_test_send k ≡ send.Done
+at_sent k active none room = rw (active, ← none, lt-ltb k.sent (k.released + k.shape.depth) room) refl
+
+pub at_untaken : (k : Kept) (q : ℕ) → k.receiving ≡ true → Some q ≡ least_without (length k.taken) (has k.taken) → kept_test_recv k ≡ recv.Untaken q
+at_untaken k q active found = rw (active, ← found) refl
+
+pub at_out : (k : Kept) (q : ℕ) → k.receiving ≡ true → None ≡ least_without (length k.taken) (has k.taken) → Some q ≡ least_without (length k.back) (has k.back)
+    → kept_test_recv k ≡ recv.Out q
+at_out k q active none found = rw (active, ← none, ← found) refl
+
+pub at_received : (k : Kept) → k.receiving ≡ true → None ≡ least_without (length k.taken) (has k.taken) → None ≡ least_without (length k.back) (has k.back)
+    → kept_test_recv k ≡ recv.Done
+at_received k active none none_out = rw (active, ← none, ← none_out) refl

@@ -246,6 +246,7 @@ impl PlainPair {
         ensures shape { self.new.shape ≡ self.old.shape }
         ensures answer { Follows self.old self.new result
             (λ r. take_answer self.old.shape r q) (λ r. after_take self.old.shape r q) }
+        ensures out { IfOk result (λ taken. IsOut self.new taken) }
     {
         let _tables = &self.tables;
         self.refuse_take(q)?;
@@ -290,6 +291,7 @@ impl PlainPair {
         requires arrived { kept_missing self.old q ≡ None }
         ensures shape { self.new.shape ≡ self.old.shape }
         ensures takes { Takes self.old self.new q result }
+        ensures out { IsOut self.new result }
     {
         let index = self.recv_place(q as usize);
         let buffer = take_at(&mut self.buffers, index);

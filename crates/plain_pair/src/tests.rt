@@ -1,7 +1,7 @@
 //! Short runs of a pair, with the pieces counted by hand.
 
-use crate::{PlainLook, PlainPair, PlainRefusal, PlainTake};
-use part_geometry::{Geometry, StartFault};
+use crate::{PlainLook, PlainPair, PlainRefusal, PlainSendTest, PlainTake};
+use part_geometry::{Geometry, RecvTest, StartFault};
 use std::process::Abort;
 
 /// A pair of 3 send partitions of 4 bytes and 2 receive partitions of 6 bytes, with a round started on both sides.
@@ -82,4 +82,43 @@ fn a_side_that_is_active_does_not_start(rt: HostRuntime) {
         ),
         (1, 1, 0, 0)
     );
+}
+
+#[test]
+fn rounds_follow_one_another(rt: HostRuntime) {
+    let mut pair = started(&rt, 1, 1);
+    assert_eq!(rt; pair.test_send(), PlainSendTest::Unmarked { partition: 0 });
+    for p in 0..3 {
+        pair.pready(1, p, b"abcd").expect(&rt, "unmarked");
+    }
+    assert_eq!(rt; pair.test_send(), PlainSendTest::Unreleased { released: 0 });
+    assert_eq!(rt; pair.test_recv(), RecvTest::Untaken { q: 0 });
+    let taken = pair.take(0).expect(&rt, "arrived");
+    pair.give_back(taken);
+    let taken = pair.take(1).expect(&rt, "arrived");
+    assert_eq!(rt; pair.test_recv(), RecvTest::Out { q: 1 });
+    drop(taken);
+    assert_eq!(rt;
+        pair.start_recv(),
+        Err(StartFault::AlreadyActive { round: 1 })
+    );
+}
+
+#[test]
+fn a_released_round_makes_room_for_the_next(rt: HostRuntime) {
+    let mut pair = started(&rt, 1, 1);
+    for p in 0..3 {
+        pair.pready(1, p, b"abcd").expect(&rt, "unmarked");
+    }
+    for q in 0..2 {
+        let taken = pair.take(q).expect(&rt, "arrived");
+        pair.give_back(taken);
+    }
+    assert_eq!(rt; pair.test_recv(), RecvTest::Done);
+    assert_eq!(rt; pair.test_recv(), RecvTest::Idle);
+    assert_eq!(rt; pair.test_send(), PlainSendTest::Done);
+    assert_eq!(rt; pair.start_send(), Ok(2));
+    pair.pready(2, 0, b"efgh").expect(&rt, "unmarked");
+    assert_eq!(rt; pair.start_recv(), Ok(2));
+    assert_eq!(rt; pair.parrived(0), PlainLook::NotYet { piece: 1 });
 }
