@@ -1,4 +1,4 @@
-//! Gate words: the round, the state and the bits that one atomic word of a pair has, and the order in which they change.
+//! Gate words: the round, whether it is shut, and the bits that one atomic word of a pair has, and their order.
 #![tactic(auto)]
 
 mod order;

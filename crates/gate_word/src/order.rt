@@ -1,4 +1,4 @@
-//! The order of words: none goes back while a pair runs.
+//! The order in which words change, and the join of two words.
 
 ghost use Rattle.std.specs.Prelude.{◌≡◌, ◌↔◌, IsTrue};
 ghost use Rattle.gate_word.specs.Order.{AreIn, IsLater, IsLeastAbove, join_of};
