@@ -4,6 +4,8 @@
 mod grid;
 mod rule;
 mod step;
+#[cfg(test)]
+mod tests;
 mod weights;
 
 pub use grid::{Grid, MAX_CELLS, MAX_SIDE, MAX_VALUE};
