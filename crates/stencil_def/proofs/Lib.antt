@@ -1,0 +1,3 @@
+pub mod SquareFacts
+pub mod SumFacts
+pub mod StepFacts

@@ -1,0 +1,19 @@
+use Rattle.std.proofs.Common.{sym, to_z, w64, arith}
+use Rattle.stencil_def.proofs.SumFacts.{sum-none, add-fits, add-value, add-small}
+use Rattle.stencil_def.proofs.step.row_sum.Goals as goal
+
+pub loop-b-init : goal.loop-b-init
+loop-b-init c = record { value = sym (sum-none _); limits = omega arith }
+
+pub overflow_add-sum : goal.overflow_add-sum
+overflow_add-sum c =
+    let few = c.loop-b-test.true in let limits = c.reach.ensures.limits in
+    add-fits (to_z w64 c.loop-b.sum-bits) c.product-sum.result c.loop-b.b 1000000000000000 c.loop-b.invariant.limits c.product-sum.ensures.limits (omega arith) (omega arith)
+
+pub loop-b-preserved : goal.loop-b-preserved
+loop-b-preserved c =
+    let few = c.loop-b-test.true in let limits = c.reach.ensures.limits in
+    record {
+      value = add-value (to_z w64 c.loop-b.sum-bits) c.product-sum.result _ c.loop-b.b 1000000000000000 c.loop-b.invariant.value c.product-sum.ensures.value c.loop-b.invariant.limits c.product-sum.ensures.limits (omega arith) (omega arith);
+      limits = add-small (to_z w64 c.loop-b.sum-bits) c.product-sum.result c.loop-b.b 1000000000000000 c.loop-b.invariant.limits c.product-sum.ensures.limits (omega arith) (omega arith);
+    }

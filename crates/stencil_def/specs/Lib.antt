@@ -1,0 +1,4 @@
+pub mod Limits
+pub mod Plane
+pub mod Square
+pub mod Step
