@@ -18,4 +18,4 @@ pub mod Overs
 pub mod Looks
 pub mod Takes
 pub mod Backs
-pub mod Tests
+pub mod TestAnswers
