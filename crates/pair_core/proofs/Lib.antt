@@ -1,0 +1,6 @@
+pub mod Words
+pub mod Puts
+pub mod Rounds
+pub mod Cut
+pub mod Frames
+pub mod Loads

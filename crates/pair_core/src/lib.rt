@@ -1,0 +1,4 @@
+//! The core of a pair that many threads use: its state as plain data, and the atomic steps that change it.
+#![tactic(auto)]
+
+pub mod view;
