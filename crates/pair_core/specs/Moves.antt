@@ -90,7 +90,8 @@ module _ {A : Type 0} where
   IsAllowed g s (LoadPiece n d i) = MayStep n s × (d < g.depth) × (i < pieces g)
   IsAllowed g s LoadRelease = Unit {0}
   IsAllowed g s (ShutClaim c) = (c < claim_words g) × (s.send.opened ≡ claim_words g) × (c ≡ s.send.shut) × (c ≡ 0 → MayShut g (s.seen 0) s.send.round)
-  IsAllowed g s (TryClaim n p a) = IsMarker n × MayStep n s × (p < g.send_parts) × (s.pending n ≡ None) × MayClaim (s.seen n) p
+  -- a seat without a view has seen no claim word open
+  IsAllowed g s (TryClaim n p a) = IsMarker n × (s.life n ≡ Live) × (p < g.send_parts) × (s.pending n ≡ None) × MayClaim (s.seen n) p
   IsAllowed g s (LayPiece n p i) = (x : Pending) × (s.pending n ≡ Some x) × MayLay g x p i
   IsAllowed g s (StoreReturn k t) =
       (t < take_words g) × (k ≤ last_round_number)
