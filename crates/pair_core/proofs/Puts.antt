@@ -105,3 +105,16 @@ both_words {X} (Piece d i) Release v w f h P here rest = rest Release
 both_words {X} (Piece d i) (Take b) v w f h P here rest = rest (Take b)
 both_words {X} (Piece d i) (Return b) v w f h P here rest = rest (Return b)
 both_words {X} (Piece d i) (Piece e j) v w f h P here rest = put_pair_cases_both (λ m n. f (Piece m n)) (λ m n. h (Piece m n)) d i v w (λ m n. P (Piece m n)) here (λ m n. rest (Piece m n)) e j
+
+-- at one place: the new value there, or the old one
+pub put_at : {X : Type 0} (f : ℕ → X) (n : ℕ) (x : X) (P : X → Type 0) (m : ℕ) → (m ≡ n → P x) → (m ≢ n → P (f m)) → P (put f n x m)
+put_at {X} f n x P m here rest = dite (ℕ_discrete m n)
+    (λ e. subst (λ (k : ℕ). P (put f n x k)) (sym e) (subst P (sym (put_here f n x)) (here e)))
+    (λ o. subst P (sym (put_else f n x m o)) (rest o))
+
+pub put_pair_at : {X : Type 0} (f : ℕ → ℕ → X) (d i : ℕ) (x : X) (P : X → Type 0) (e j : ℕ) → (e ≡ d → j ≡ i → P x) → (¬ ((e ≡ d) × (j ≡ i)) → P (f e j)) → P (put_pair f d i x e j)
+put_pair_at {X} f d i x P e j here rest = dite (ℕ_discrete e d)
+    (λ a. dite (ℕ_discrete j i)
+        (λ b. subst (λ (m : ℕ). P (put_pair f d i x m j)) (sym a) (subst (λ (n : ℕ). P (put_pair f d i x d n)) (sym b) (subst P (sym (put_pair_here f d i x)) (here a b))))
+        (λ o. subst P (sym (put_pair_else f d i x e j (λ both. o both.1))) (rest (λ both. o both.1))))
+    (λ o. subst P (sym (put_pair_else f d i x e j (λ both. o both.0))) (rest (λ both. o both.0)))
