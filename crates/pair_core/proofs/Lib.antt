@@ -5,3 +5,4 @@ pub mod Cut
 pub mod Frames
 pub mod Loads
 pub mod SendFacts
+pub mod SendPiece
