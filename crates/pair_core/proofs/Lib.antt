@@ -6,3 +6,4 @@ pub mod Frames
 pub mod Loads
 pub mod SendFacts
 pub mod SendPiece
+pub mod SendClaim
