@@ -7,3 +7,4 @@ pub mod Loads
 pub mod SendFacts
 pub mod SendPiece
 pub mod SendClaim
+pub mod Start

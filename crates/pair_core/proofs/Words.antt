@@ -1,5 +1,5 @@
 -- What a word shows after it was stored empty or a bit was added. Above this file words are opaque.
-use Rattle.std.proofs.Common.{◌≡◌, ◌≢◌, ◌⊎◌, inl, inr, ⊎_elim, ℕ, zero, suc, ◌+◌, ◌*◌, ◌/◌, ◌%◌, ◌^◌, ◌<◌, ◌≤◌, max, min, Bool, true, false, ◌==◌, refl, sym, ap, ◌∙◌, subst, arith, bit_or, add-zero}
+use Rattle.std.proofs.Common.{◌≡◌, ◌≢◌, ◌⊎◌, inl, inr, ⊎_elim, ℕ, zero, suc, ◌+◌, ◌*◌, ◌/◌, ◌%◌, ◌^◌, ◌<◌, ◌≤◌, max, min, Bool, true, false, true≢false, ◌==◌, refl, sym, ap, ◌∙◌, subst, arith, bit_or, add-zero}
 use Rattle.std.specs.Prelude.{IsBitSet, IsTrue, if◌then◌else◌}
 use Rattle.std.proofs.lemmas.Nat.{or_shr, or_shifted, pow_below, div-mul-add, mod-mul-add, pow_pos, or_comm}
 use Rattle.std.proofs.lemmas.Nat.Bits.{bit_at_cat_low, bit_at_above, bit_at-zero, bit_at_or, bit_at-pow_same, bit_at-pow_other, bit_at-lt}
@@ -115,3 +115,16 @@ later_or w j h = later_of w (bit_or w (2 ^ j)) (let e = round_or w j h in omega 
 
 pub later_newer : (v w : ℕ) → round_in v < round_in w → IsLater v w
 later_newer v w h = inl h
+
+-- the bits of a word that was made of parts
+pub has_bit : (w r b : ℕ) (s : Bool) → Has w r s b → (j : ℕ) → j < 32 → bit w j ≡ bit_at b j
+has_bit w r b s h j low = low_bit w j low ∙ ap (λ (z : ℕ). bit_at z j) h.bits
+
+pub has_shut : (w r b : ℕ) → Has w r true b → bit w 32 ≡ 1
+has_shut w r b h = shut_is w h.shut
+
+pub has_open : (w r b : ℕ) → Has w r false b → bit w 32 ≡ 0
+has_open w r b h = let small = bit_lt w 32 in elim (cases_eq (bit w 32) 1) [
+  | inl one ↦ absurd (true≢false (sym (is_shut w one) ∙ h.shut))
+  | inr other ↦ omega arith
+]
