@@ -8,3 +8,5 @@ pub mod SendFacts
 pub mod SendPiece
 pub mod SendClaim
 pub mod Start
+pub mod Full
+pub mod Told
