@@ -10,3 +10,4 @@ pub mod SendClaim
 pub mod Start
 pub mod Full
 pub mod Told
+pub mod HistorySend
