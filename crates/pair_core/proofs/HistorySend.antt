@@ -149,3 +149,123 @@ told_opens g claim take piece released send recv h some none t =
         takes = λ k q x. ⊎_elim (λ y. absurd (cc)) (t.within.takes k q) x;
       };
     }
+
+told_shuts : (g : Shape) (claim take : ℕ → ℕ) (piece : ℕ → ℕ → ℕ) (released : ℕ) (send : SendSide) (recv : RecvSide) (h : List Entry)
+    → 1 ≤ send.round → send.shut ≡ 0 → Told g claim take piece released send recv h → Told g claim take piece released (record send { shut = 1 }) recv (entry.Shut send.round ∷ h)
+told_shuts g claim take piece released send recv h some none t =
+    let e : entry.Entry = entry.Shut send.round in record {
+      opens = upto_skip h e entry.Open _ (λ k x. cc) t.opens;
+      shuts = upto_same (e ∷ h) entry.Shut (send.round + 1) _ (omega arith)
+          (upto_add h entry.Shut send.round some (λ k x. cc) (upto_same h entry.Shut _ send.round (omega arith) t.shuts));
+      listens = upto_skip h e entry.Listen _ (λ k x. cc) t.listens;
+      releases = upto_skip h e entry.Release _ (λ k x. cc) t.releases;
+      marks = λ p l. upto_skip h e (λ k. entry.Mark k p) _ (λ k x. cc) (t.marks p l);
+      lays = λ i p l touch. upto_skip h e (λ k. entry.Lay k p i) _ (λ k x. cc) (t.lays i p l touch);
+      outs = λ i l. upto_skip h e (λ k. entry.Out k i) _ (λ k x. cc) (t.outs i l);
+      takes = λ q l. upto_skip h e (λ k. entry.Take k q) _ (λ k x. cc) (t.takes q l);
+      within = record {
+        marks = λ k p x. ⊎_elim (λ y. absurd (cc)) (t.within.marks k p) x;
+        lays = λ k p i x. ⊎_elim (λ y. absurd (cc)) (t.within.lays k p i) x;
+        outs = λ k i x. ⊎_elim (λ y. absurd (cc)) (t.within.outs k i) x;
+        takes = λ k q x. ⊎_elim (λ y. absurd (cc)) (t.within.takes k q) x;
+      };
+    }
+
+module _ {A : Type 0} where
+  -- the entry of the first claim word, and none of another
+  first_only : (g : Shape) (s : Core A) (h : List Entry) (c : ℕ) (e : Entry) → (c ≡ 0 → Adds g s h (e ∷ [])) → (c ≢ 0 → Adds g s h []) → Adds g s h (where_so (c == 0) e)
+  first_only g s h c e first further = elim (cases_eq c 0) [
+    | inl z ↦ subst (λ (b : Bool). Adds g s h (where_so b e)) (sym (eq-eqb c 0 z)) (first z)
+    | inr n ↦ subst (λ (b : Bool). Adds g s h (where_so b e)) (sym (ne_eqb c 0 n)) (further n)
+  ]
+
+  pub stores_claim_adds : (g : Shape) → IsShape g → (s : Core A) (k c : ℕ) (h : List Entry) → Sound g s → IsAllowed g s (StoreClaim k c) → Tells g s h
+      → Adds g (after g s (StoreClaim k c)) h (entries g s (StoreClaim k c))
+  stores_claim_adds g v s k c h r a t =
+      let claim : ℕ → ℕ = λ n. s.word (Claim n) in let take : ℕ → ℕ = λ x. s.word (Take x) in let piece : ℕ → ℕ → ℕ = λ d j. s.word (Piece d j) in let released : ℕ = round_in (s.word Release) in
+      let w : ℕ = empty s.send.round in
+      let inside = a.0 in let is = a.3 in
+      let unshut : s.send.shut ≡ 0 = elim (cases_lt 0 s.send.shut) [ inl l ↦ let x = r.progress.shuts_last l in absurd (omega arith) | inr l ↦ omega arith ] in
+      let some : 1 ≤ s.send.round = elim (cases_lt 0 s.send.round) [ inl l ↦ l | inr l ↦ let x = r.progress.begun (omega arith) in absurd (omega arith) ] in
+      let before = (r.gates.is_past c (omega arith) inside).0 in
+      let round = empty_round s.send.round in
+      let same : (p : ℕ) → p < g.send_parts → next_round (put claim c w) p ≡ next_round claim p = λ p l.
+          put_at claim c w (λ z. round_in z + bit z (p % 32) ≡ next_round claim p) (p / 32)
+              (λ e. let one = r.gates.all_past p l (omega arith) in let zero_bit = empty_bit s.send.round (p % 32) (omega arith) in
+                  let x : round_in (claim (p / 32)) ≡ round_in (claim c) = ap (λ z. round_in (claim z)) e in omega arith)
+              (λ _. refl) in
+      let now = told_claim g claim (put claim c w) take piece released s.send s.recv h same t in
+      first_only g (after g s (StoreClaim k c)) h c (entry.Open k)
+          (λ e. record {
+            tells = subst (λ (z : ℕ × ℕ). Told g (put claim c w) take piece released (record s.send { opened = z.0 + 1 }) s.recv (entry.Open z.1 ∷ h)) (λ i. (sym e i, sym a.1 i))
+                (told_opens g (put claim c w) take piece released s.send s.recv h some (omega arith) now);
+            order = λ o. (subst (λ (z : ℕ). Follows g h (entry.Open z)) (sym a.1) (
+              some,
+              not_above h entry.Open _ s.send.round t.opens (omega arith),
+              (λ two. (has_below h entry.Open _ (s.send.round - 1) t.opens (omega arith) (omega arith), has_below h entry.Shut _ (s.send.round - 1) t.shuts (omega arith) (omega arith))),
+              (λ deep. has_below h entry.Release _ (s.send.round - g.depth) t.releases (omega arith) (let x = r.progress.ahead in omega arith)),
+            ), o);
+          })
+          (λ n. record {
+            tells = record {
+              opens = upto_same h entry.Open _ _ (omega arith) now.opens;
+              shuts = now.shuts;
+              listens = now.listens;
+              releases = now.releases;
+              marks = now.marks;
+              lays = now.lays;
+              outs = now.outs;
+              takes = now.takes;
+              within = now.within;
+            };
+            order = λ o. o;
+          })
+
+  pub shuts_claim_adds : (g : Shape) → IsShape g → (s : Core A) (c : ℕ) (h : List Entry) → Sound g s → IsAllowed g s (ShutClaim c) → Tells g s h
+      → Adds g (after g s (ShutClaim c)) h (entries g s (ShutClaim c))
+  shuts_claim_adds g v s c h r a t =
+      let claim : ℕ → ℕ = λ n. s.word (Claim n) in let take : ℕ → ℕ = λ x. s.word (Take x) in let piece : ℕ → ℕ → ℕ = λ d j. s.word (Piece d j) in let released : ℕ = round_in (s.word Release) in
+      let w : ℕ = bit_or (claim c) (2 ^ 32) in let words = some_claims g v in
+      let inside = a.0 in let opened = a.1 in let is = a.2 in
+      let whole = r.progress.opens_last (omega arith) in
+      let some : 1 ≤ s.send.round = elim (cases_lt 0 s.send.round) [ inl l ↦ l | inr l ↦ let x = r.progress.begun (omega arith) in absurd (omega arith) ] in
+      let round : round_in w ≡ round_in (claim c) = round_or (claim c) 32 (omega arith) in
+      let same : (p : ℕ) → p < g.send_parts → next_round (put claim c w) p ≡ next_round claim p = λ p _.
+          put_at claim c w (λ z. round_in z + bit z (p % 32) ≡ next_round claim p) (p / 32)
+              (λ e. let b = bit_or_else (claim c) 32 (p % 32) (λ f. omega arith) in
+                  let x : round_in (claim c) + bit (claim c) (p % 32) ≡ next_round claim p = ap (λ z. round_in (claim z) + bit (claim z) (p % 32)) (sym e) in omega arith)
+              (λ _. refl) in
+      let now = told_claim g claim (put claim c w) take piece released s.send s.recv h same t in
+      first_only g (after g s (ShutClaim c)) h c (entry.Shut s.send.round)
+          (λ e.
+              let unshut : s.send.shut ≡ 0 = omega arith in
+              let full = (may_shut g v s r opened unshut (a.3 e)).1 in
+              record {
+                tells = subst (λ (z : ℕ). Told g (put claim c w) take piece released (record s.send { shut = z + 1 }) s.recv (entry.Shut s.send.round ∷ h)) (sym e)
+                    (told_shuts g (put claim c w) take piece released s.send s.recv h some unshut now);
+                order = λ o. ((
+                  some,
+                  not_above h entry.Shut _ s.send.round t.shuts (omega arith),
+                  has_below h entry.Open _ s.send.round t.opens some (omega arith),
+                  (λ i l.
+                      let f = full_passes g v (piece (s.send.round % g.depth) i) s.send.round i l (record { round = r.pieces.current i (omega arith); all = λ p touch. full i p l touch }) in
+                      let b = stored_is i s.send.pieces s.send.round (one_if (is_full g (piece (s.send.round % g.depth) i) s.send.round i)) (omega arith) in
+                      let one = one_true (is_full g (piece (s.send.round % g.depth) i) s.send.round i) f in
+                      has_below h (λ m. entry.Out m i) _ s.send.round (t.outs i l) some (omega arith)),
+                  (λ two. has_below h entry.Shut _ (s.send.round - 1) t.shuts (omega arith) (omega arith)),
+                ), o);
+              })
+          (λ n. record {
+            tells = record {
+              opens = now.opens;
+              shuts = upto_same h entry.Shut _ _ (omega arith) now.shuts;
+              listens = now.listens;
+              releases = now.releases;
+              marks = now.marks;
+              lays = now.lays;
+              outs = now.outs;
+              takes = now.takes;
+              within = now.within;
+            };
+            order = λ o. o;
+          })
