@@ -11,3 +11,4 @@ pub mod Start
 pub mod Full
 pub mod Told
 pub mod HistorySend
+pub mod HistoryMark
