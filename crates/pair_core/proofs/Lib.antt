@@ -4,3 +4,4 @@ pub mod Rounds
 pub mod Cut
 pub mod Frames
 pub mod Loads
+pub mod ClaimGroups
