@@ -5,3 +5,5 @@ pub mod Cut
 pub mod Frames
 pub mod Loads
 pub mod ClaimGroups
+pub mod ClaimMarks
+pub mod Claims
