@@ -7,3 +7,4 @@ pub mod Loads
 pub mod ClaimGroups
 pub mod ClaimMarks
 pub mod Claims
+pub mod LayLists
