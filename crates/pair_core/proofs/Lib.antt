@@ -8,3 +8,4 @@ pub mod ClaimGroups
 pub mod ClaimMarks
 pub mod Claims
 pub mod LayLists
+pub mod LayGroups
