@@ -4,8 +4,8 @@ use Rattle.std.specs.Prelude.{if◌then◌else◌}
 use Rattle.std.proofs.lemmas.Bool.{cases_eq, cases_Bool, eqb-true}
 use Rattle.gate_word.specs.Words.{round_in}
 use Rattle.part_geometry.specs.Shape.{Shape, IsShape}
-use Rattle.part_geometry.specs.Cells.{cells, send_of}
-use Rattle.part_geometry.specs.Pieces.{pieces, first_part, Touches, TouchesRecv}
+use Rattle.part_geometry.specs.Cells.{cells, send_of, recv_of}
+use Rattle.part_geometry.specs.Pieces.{pieces, piece_of, first_part, Touches, TouchesRecv}
 use Rattle.pair_core.specs.Words.{bit}
 use Rattle.pair_core.specs.Names.{Name, Claim, Release, Take, Return, Piece, put, put_word}
 use Rattle.pair_core.specs.Core.{Core, Slot, Home, IsMarker, times}
@@ -13,9 +13,11 @@ use Rattle.pair_core.specs.Reading.{part_bit, next_round, laid}
 use Rattle.pair_core.specs.Steps.{claims, loads, tries_claim}
 use Rattle.pair_core.specs.Moves.{Move, TryClaim, MayClaim, IsAllowed, after}
 use Rattle.pair_core.specs.Sound.{Sound}
+use Rattle.pair_core.specs.declared.view.Pending.{Pending}
 use Rattle.pair_core.specs.declared.view.Life.TheVariants.{Live}
 use Rattle.pair_core.proofs.Words.{bit_lt, later_or}
 use Rattle.pair_core.proofs.Rounds.{place_lt}
+use Rattle.pair_core.proofs.Cut.{cell_piece, cell_touches, cell_touches_recv}
 use Rattle.pair_core.proofs.Frames.{sees, owns_else, unused_or}
 use Rattle.pair_core.proofs.Loads.{loads_keeps}
 use Rattle.pair_core.proofs.ClaimGroups.{Gains, gains, IsFree, free_of, free_unheld, gates_gain, pieces_gain, claims_gain, slots_gain}
@@ -106,3 +108,15 @@ module _ {A : Type 0} where
             let all = free.all in let now = r.pieces.current i (omega arith) in
             let lacks = free.unlaid i low t in absurd (omega arith)
       ]
+
+  -- so no receive partition with which it shares a cell
+  pub claim_untaken_cell : (g : Shape) → IsShape g → (s : Core A) (p c : ℕ) → Sound g s → p < g.send_parts → MayClaim s.word p → c < cells g → send_of g c ≡ p
+      → times s.send.round (recv_of g c) s.takes ≡ 0
+  claim_untaken_cell g v s p c r inside may within cell =
+      claim_untaken g v s p (recv_of g c) (piece_of g c) r inside may (cell_piece g c within) (subst (Touches g (piece_of g c)) cell (cell_touches g c within)) (cell_touches_recv g c within)
+
+  -- no claim of it pends
+  pub claim_unpended : (g : Shape) (s : Core A) (p m : ℕ) (x : Pending) → Sound g s → MayClaim s.word p → s.pending m ≡ Some x → x.partition ≢ p
+  claim_unpended g s p m x r may at e =
+      let one : part_bit (λ c. s.word (Claim c)) p ≡ 1 = subst (λ (z : ℕ). part_bit (λ c. s.word (Claim c)) z ≡ 1) e (r.claims.each m x at).claimed.2 in
+      let zero = may.1 in omega arith

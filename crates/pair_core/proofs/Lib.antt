@@ -9,3 +9,4 @@ pub mod ClaimMarks
 pub mod Claims
 pub mod LayLists
 pub mod LayGroups
+pub mod Lays
