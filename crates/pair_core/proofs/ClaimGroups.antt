@@ -1,18 +1,17 @@
 -- What is left of the groups when the bit of one partition is added to its claim word, and its claim pends.
-use Rattle.std.proofs.Common.{◌≡◌, ◌≢◌, ◌⊎◌, inl, inr, ⊎_elim, ℕ, ◌+◌, ◌-◌, ◌/◌, ◌%◌, ◌^◌, ◌<◌, ◌≤◌, Bool, true, false, ◌==◌, ◌&&◌, List, [], ◌∷◌, Option, Some, None, refl, sym, ap, ◌∙◌, subst, arith, bit_or}
-use Rattle.std.specs.Prelude.{if◌then◌else◌, ◌↔◌}
+use Rattle.std.proofs.Common.{◌≡◌, ◌≢◌, inl, inr, ℕ, ◌+◌, ◌-◌, ◌/◌, ◌%◌, ◌^◌, ◌<◌, ◌≤◌, Bool, true, ◌==◌, ◌&&◌, [], Option, Some, None, refl, sym, ap, ◌∙◌, subst, arith, bit_or}
+use Rattle.std.specs.Prelude.{if◌then◌else◌}
 use Rattle.std.proofs.lemmas.Bool.{cases_lt, cases_eq, cases_Bool, eqb-true, eq-eqb, and_parts, and_from, false≢true}
 use Rattle.gate_word.specs.Words.{round_in}
 use Rattle.part_geometry.specs.Shape.{Shape, IsShape}
 use Rattle.part_geometry.specs.Cells.{cells, send_of, recv_of}
-use Rattle.part_geometry.specs.Pieces.{pieces, piece_of, first_part, Touches, TouchesRecv}
+use Rattle.part_geometry.specs.Pieces.{pieces, piece_of, first_part, Touches}
 use Rattle.pair_core.specs.Words.{bit}
-use Rattle.pair_core.specs.Names.{claim_words, put, put_pair}
-use Rattle.pair_core.specs.Core.{Slot, Home, Out, IsMarker, has, times, is_mark}
-use Rattle.pair_core.specs.Reading.{part_bit, next_round, laid, IsFull}
-use Rattle.pair_core.specs.Steps.{put_slots, mark}
-use Rattle.pair_core.specs.Sound.{Progress, Gates, Pieces, Arrived, IsClaimed, IsOwed, IsPending, Claims, IsLent, IsHeld, Slots, Marks}
-use Rattle.pair_core.specs.declared.view.Mark.{Mark}
+use Rattle.pair_core.specs.Names.{put, put_pair}
+use Rattle.pair_core.specs.Core.{Slot, Home, Out, IsMarker}
+use Rattle.pair_core.specs.Reading.{part_bit, next_round, laid}
+use Rattle.pair_core.specs.Steps.{put_slots}
+use Rattle.pair_core.specs.Sound.{Progress, Gates, Pieces, Arrived, IsPending, Claims, IsHeld, Slots}
 use Rattle.pair_core.specs.declared.view.Pending.{Pending}
 use Rattle.pair_core.specs.declared.view.SendSide.{SendSide}
 use Rattle.pair_core.specs.declared.view.RecvSide.{RecvSide}
@@ -20,7 +19,7 @@ use Rattle.pair_core.specs.declared.view.Life.{Life}
 use Rattle.pair_core.specs.declared.view.Life.TheVariants.{Live}
 use Rattle.pair_core.proofs.Words.{bit_lt, bit_or_here, bit_or_else, round_or}
 use Rattle.pair_core.proofs.Puts.{put_here, put_else, put_cases, put_pair_here, put_pair_else}
-use Rattle.pair_core.proofs.Cut.{cell_send, cell_recv, cell_piece, cell_touches, cell_touches_recv, send_touched, some_claims, claim_word}
+use Rattle.pair_core.proofs.Cut.{cell_recv, cell_piece, cell_touches, cell_touches_recv, send_touched, some_claims, claim_word}
 
 -- the words h are the words f but for the bit of partition p, which h has
 pub record Gains (f h : ℕ → ℕ) (p : ℕ) : Type 0 where

@@ -1,19 +1,18 @@
 -- What is left of the marks when a marker claims a partition.
-use Rattle.std.proofs.Common.{◌≡◌, ◌≢◌, ◌⊎◌, inl, inr, ⊎_elim, ℕ, ◌+◌, ◌-◌, ◌/◌, ◌%◌, ◌^◌, ◌<◌, ◌≤◌, Bool, true, false, ◌==◌, ◌&&◌, List, [], ◌∷◌, refl, sym, ap, ◌∙◌, subst, arith}
+use Rattle.std.proofs.Common.{◌≡◌, ◌≢◌, ◌⊎◌, inl, inr, ℕ, ◌+◌, ◌/◌, ◌<◌, ◌≤◌, Bool, ◌==◌, ◌&&◌, List, ◌∷◌, refl, sym, ap, ◌∙◌, subst, arith}
 use Rattle.std.specs.Prelude.{if◌then◌else◌}
-use Rattle.std.proofs.lemmas.Bool.{cases_lt, cases_eq, cases_Bool, eqb-true, eq-eqb, and_parts, and_from, false≢true}
+use Rattle.std.proofs.lemmas.Bool.{cases_eq, cases_Bool, eqb-true, eq-eqb, and_parts, and_from, false≢true}
 use Rattle.gate_word.specs.Words.{round_in}
 use Rattle.part_geometry.specs.Shape.{Shape}
-use Rattle.pair_core.specs.Words.{bit}
 use Rattle.pair_core.specs.Names.{put, put_pair}
-use Rattle.pair_core.specs.Core.{IsMarker, times, is_mark}
+use Rattle.pair_core.specs.Core.{IsMarker, times}
 use Rattle.pair_core.specs.Reading.{part_bit, next_round}
 use Rattle.pair_core.specs.Steps.{mark}
 use Rattle.pair_core.specs.Sound.{Marks}
 use Rattle.pair_core.specs.declared.view.Mark.{Mark}
 use Rattle.pair_core.specs.declared.view.Life.{Life}
 use Rattle.pair_core.specs.declared.view.Life.TheVariants.{Live}
-use Rattle.pair_core.proofs.Puts.{put_here, put_else, put_cases, put_pair_here, put_pair_else}
+use Rattle.pair_core.proofs.Puts.{put_here, put_cases, put_pair_here, put_pair_else}
 use Rattle.pair_core.proofs.ClaimGroups.{Gains}
 
 -- how often a list has a partition in a round, with one mark more
@@ -24,7 +23,7 @@ times_cases {A} k p a ms j q P here rest = elim (cases_Bool ((k == j) && (p == q
       subst (λ (b : Bool). P ((if b then 1 else 0) + times j q ms)) (sym holds) (here (sym (eqb-true k j both.0)) (sym (eqb-true p q both.1)))
   | inr fails ↦ subst (λ (b : Bool). P ((if b then 1 else 0) + times j q ms)) (sym fails)
       (let e : times j q ms ≡ 0 + times j q ms = omega arith in
-       subst P e (rest (λ both. false≢true (sym fails ∙ and_from (k == j) (p == q) (eq-eqb k j (sym both.0)) (eq-eqb p q (sym both.1))))))
+      subst P e (rest (λ both. false≢true (sym fails ∙ and_from (k == j) (p == q) (eq-eqb k j (sym both.0)) (eq-eqb p q (sym both.1))))))
 ]
 
 pub times_here : {A : Type 0} (k p : ℕ) (a : A) (ms : List (Mark A)) → times k p (mark k p a ∷ ms) ≡ 1 + times k p ms
@@ -62,7 +61,7 @@ marks_gain {A} g f h life marks who k n p a gain inside lacks now some sort live
           (subst (λ (z : ℕ). times k z (put marks n more (put_pair who k p n k z)) ≡ 1) (sym e) one)
       | inr differ ↦ kept j q (λ both. differ both.0)
           (r.all j q low within (subst (λ (z : ℕ). j < next_round f z) (sym e)
-              (let b = next_here f h p k gain now in let c : j < next_round h p = subst (λ (z : ℕ). j < next_round h z) e less in omega arith)))
+          (let b = next_here f h p k gain now in let c : j < next_round h p = subst (λ (z : ℕ). j < next_round h z) e less in omega arith)))
     ]
     | inr differ ↦ kept j q (λ both. differ both.1) (r.all j q low within (let b = next_rest f h p gain q differ in omega arith))
   ];

@@ -1,21 +1,21 @@
 -- A marker's try to claim keeps soundness, and what is so where a partition may be claimed.
-use Rattle.std.proofs.Common.{◌≡◌, ◌≢◌, ◌⊎◌, inl, inr, ⊎_elim, ℕ, ◌+◌, ◌-◌, ◌*◌, ◌/◌, ◌%◌, ◌^◌, ◌<◌, ◌≤◌, Bool, true, false, ◌==◌, List, [], ◌∷◌, Option, Some, None, refl, sym, ap, ◌∙◌, subst, arith, bit_or}
+use Rattle.std.proofs.Common.{◌≡◌, ◌≢◌, inl, inr, ℕ, ◌/◌, ◌%◌, ◌^◌, ◌<◌, ◌≤◌, Bool, ◌==◌, Some, None, sym, ap, ◌∙◌, subst, arith, bit_or}
 use Rattle.std.specs.Prelude.{if◌then◌else◌}
-use Rattle.std.proofs.lemmas.Bool.{cases_eq, cases_Bool, eqb-true}
+use Rattle.std.proofs.lemmas.Bool.{cases_lt, cases_eq, cases_Bool, eqb-true}
 use Rattle.gate_word.specs.Words.{round_in}
 use Rattle.part_geometry.specs.Shape.{Shape, IsShape}
 use Rattle.part_geometry.specs.Cells.{cells, send_of, recv_of}
-use Rattle.part_geometry.specs.Pieces.{pieces, piece_of, first_part, Touches, TouchesRecv}
+use Rattle.part_geometry.specs.Pieces.{pieces, piece_of, Touches, TouchesRecv}
 use Rattle.pair_core.specs.Words.{bit}
-use Rattle.pair_core.specs.Names.{Name, Claim, Release, Take, Return, Piece, put, put_word}
-use Rattle.pair_core.specs.Core.{Core, Slot, Home, IsMarker, times}
-use Rattle.pair_core.specs.Reading.{part_bit, next_round, laid}
-use Rattle.pair_core.specs.Steps.{claims, loads, tries_claim}
-use Rattle.pair_core.specs.Moves.{Move, TryClaim, MayClaim, IsAllowed, after}
+use Rattle.pair_core.specs.Names.{claim_words, Claim, Release, Take, Return, Piece, put, put_pair, put_word}
+use Rattle.pair_core.specs.Core.{Core, Home, IsMarker, times}
+use Rattle.pair_core.specs.Reading.{part_bit, next_round}
+use Rattle.pair_core.specs.Steps.{claims, loads}
+use Rattle.pair_core.specs.Moves.{TryClaim, MayClaim, IsAllowed, after}
 use Rattle.pair_core.specs.Sound.{Sound}
 use Rattle.pair_core.specs.declared.view.Pending.{Pending}
 use Rattle.pair_core.specs.declared.view.Life.TheVariants.{Live}
-use Rattle.pair_core.proofs.Words.{bit_lt, later_or}
+use Rattle.pair_core.proofs.Words.{later_or}
 use Rattle.pair_core.proofs.Rounds.{place_lt}
 use Rattle.pair_core.proofs.Cut.{cell_piece, cell_touches, cell_touches_recv}
 use Rattle.pair_core.proofs.Frames.{sees, owns_else, unused_or}
@@ -33,6 +33,25 @@ module _ {A : Type 0} where
   claim_free g v s p r inside may =
       free_of g v (λ c. s.word (Claim c)) (λ d i. s.word (Piece d i)) (round_in (s.word Release)) s.send s.recv p r.progress r.gates r.pieces inside may.0 may.1
 
+  -- an open claim word is of the sender's round, which is stored in all piece words
+  pub record IsOpen (g : Shape) (s : Core A) (c : ℕ) : Type 0 where
+    pub unshut : s.send.shut ≤ c
+    pub opened : c < s.send.opened
+    pub round : round_in (s.word (Claim c)) ≡ s.send.round
+    pub stored : s.send.pieces ≡ pieces g
+
+  pub open_word : (g : Shape) (s : Core A) (c : ℕ) → Sound g s → c < claim_words g → bit (s.word (Claim c)) 32 ≡ 0 → IsOpen g s c
+  open_word g s c r inside unshut =
+      let opened : c < s.send.opened = elim (cases_lt c s.send.opened) [
+        | inl less ↦ less
+        | inr more ↦ let e = (r.gates.is_past c more inside).1 in absurd (omega arith)
+      ] in
+      let after_shut : s.send.shut ≤ c = elim (cases_lt c s.send.shut) [
+        | inl less ↦ let e = (r.gates.is_shut c less).1 in absurd (omega arith)
+        | inr more ↦ more
+      ] in
+      record { unshut = after_shut; opened = opened; round = (r.gates.is_open c after_shut opened).0; stored = r.progress.opens_last (omega arith) }
+
   -- the claim that wins
   pub claims_keeps : (g : Shape) → IsShape g → (s : Core A) (n p : ℕ) (a : A) → Sound g s → IsMarker n → s.life n ≡ Live → p < g.send_parts → s.pending n ≡ None → MayClaim s.word p
       → Sound g (claims g n p a s)
@@ -46,7 +65,7 @@ module _ {A : Type 0} where
       let gain : Gains f h p = gains f p in
       let free = claim_free g v s p r inside may in
       record {
-        who = _;
+        who = put_pair r.who s.send.round p n;
         progress = r.progress;
         gates = gates_gain g f h p s.send gain r.gates;
         pieces = pieces_gain g f h piece p s.send gain r.pieces;
@@ -79,11 +98,11 @@ module _ {A : Type 0} where
   claim_home g v s p c r inside may within cell =
       let free = claim_free g v s p r inside may in
       r.slots.home (s.send.round % g.depth) c (place_lt g.depth s.send.round v.depth.0 v.depth.1) within
-          (λ both.
-              let one : part_bit (λ b. s.word (Claim b)) p ≡ 1 = subst (λ (z : ℕ). part_bit (λ b. s.word (Claim b)) z ≡ 1) cell both.1.0.2 in
-              let zero = may.1 in omega arith)
-          (λ both. free_unheld g v (λ b. s.word (Claim b)) (λ t. s.word (Take t)) (λ t. s.word (Return t)) (λ d i. s.word (Piece d i)) s.send s.recv p c free r.arrived within cell
-              (sym both.0) both.1)
+      (λ both.
+      let one : part_bit (λ b. s.word (Claim b)) p ≡ 1 = subst (λ (z : ℕ). part_bit (λ b. s.word (Claim b)) z ≡ 1) cell both.1.0.2 in
+      let zero = may.1 in omega arith)
+      (λ both. free_unheld g v (λ b. s.word (Claim b)) (λ t. s.word (Take t)) (λ t. s.word (Return t)) (λ d i. s.word (Piece d i)) s.send s.recv p c free r.arrived within cell
+      (sym both.0) both.1)
 
   -- no seat has a mark of it in the sender's round
   pub claim_unmarked : (g : Shape) → IsShape g → (s : Core A) (p m : ℕ) → Sound g s → p < g.send_parts → MayClaim s.word p → times s.send.round p (s.marks m) ≡ 0

@@ -1,28 +1,26 @@
 -- What is left of the groups when a partition is laid into a piece, whose word then has its bit.
-use Rattle.std.proofs.Common.{◌≡◌, ◌≢◌, ◌⊎◌, inl, inr, ⊎_elim, ℕ, ◌+◌, ◌-◌, ◌/◌, ◌%◌, ◌^◌, ◌<◌, ◌≤◌, Bool, true, false, ◌==◌, ◌&&◌, List, [], ◌∷◌, Option, Some, None, refl, sym, ap, ◌∙◌, subst, arith, bit_or}
-use Rattle.std.specs.Prelude.{if◌then◌else◌, ◌↔◌}
-use Rattle.std.proofs.lemmas.Bool.{cases_lt, cases_eq, cases_Bool, eqb-true, eq-eqb, and_parts, and_from, false≢true}
+use Rattle.std.proofs.Common.{◌≡◌, ◌≢◌, ◌⊎◌, inl, inr, ⊎_elim, ℕ, ◌-◌, ◌/◌, ◌%◌, ◌^◌, ◌<◌, ◌≤◌, Bool, true, false, ◌==◌, ◌&&◌, List, ◌∷◌, Option, Some, refl, sym, ap, ◌∙◌, subst, arith, bit_or}
+use Rattle.std.specs.Prelude.{◌↔◌}
+use Rattle.std.proofs.lemmas.Bool.{cases_eq, cases_Bool, eqb-true, eq-eqb, and_parts, and_from, false≢true}
 use Rattle.gate_word.specs.Words.{round_in}
 use Rattle.part_geometry.specs.Shape.{Shape, IsShape}
 use Rattle.part_geometry.specs.Cells.{cells, send_of, recv_of}
-use Rattle.part_geometry.specs.Pieces.{pieces, piece_of, first_part, Touches, TouchesRecv}
-use Rattle.pair_core.specs.Words.{bit}
+use Rattle.part_geometry.specs.Pieces.{pieces, piece_of, first_part, Touches}
 use Rattle.pair_core.specs.Names.{put, put_pair}
-use Rattle.pair_core.specs.Core.{Slot, Home, Out, IsMarker, has, times}
+use Rattle.pair_core.specs.Core.{Slot, Home, Out, has}
 use Rattle.pair_core.specs.Reading.{part_bit, next_round, laid, IsFull, last_round}
-use Rattle.pair_core.specs.Moves.{IsRecvActive}
 use Rattle.pair_core.specs.Steps.{put_slots, left_of}
-use Rattle.pair_core.specs.Sound.{Pieces, Arrived, IsClaimed, IsOwed, IsPending, Claims, IsLent, IsHeld, Slots, Takes}
+use Rattle.pair_core.specs.Sound.{Pieces, Arrived, IsClaimed, IsPending, Claims, IsHeld, Slots, Takes}
 use Rattle.pair_core.specs.declared.view.Mark.{Mark}
 use Rattle.pair_core.specs.declared.view.Pending.{Pending}
 use Rattle.pair_core.specs.declared.view.SendSide.{SendSide}
 use Rattle.pair_core.specs.declared.view.RecvSide.{RecvSide}
 use Rattle.pair_core.specs.declared.view.Life.{Life}
 use Rattle.pair_core.proofs.Words.{bit_lt, bit_or_here, bit_or_else, bit_or_more, round_or}
-use Rattle.pair_core.proofs.Puts.{put_here, put_else, put_cases, put_pair_here, put_pair_else, put_pair_cases}
+use Rattle.pair_core.proofs.Puts.{put_here, put_else, put_cases, put_pair_here, put_pair_cases}
 use Rattle.pair_core.proofs.Cut.{cell_recv, cell_piece, cell_touches, cell_touches_recv, bit_small, bits_apart}
 use Rattle.pair_core.proofs.ClaimGroups.{slots_cases}
-use Rattle.pair_core.proofs.LayLists.{has_here, has_else, GoesOn, on_from, goes_on}
+use Rattle.pair_core.proofs.LayLists.{has_here, has_else, on_from, goes_on}
 
 -- the piece words h are the words f but for the bit of partition p in piece i at place d, which h has
 pub record Fills (g : Shape) (f h : ℕ → ℕ → ℕ) (d i p : ℕ) : Type 0 where
@@ -42,7 +40,7 @@ fills g v f d i p inside t =
       here = ap (λ (z : ℕ). laid g z i p) (put_pair_here f d i w) ∙ bit_or_here (f d i) b;
       rest = λ e j q low u other. put_pair_cases f d i w (λ m n z. (e ≡ m) → (j ≡ n) → laid g z n q ≡ laid g (f m n) n q)
           (λ place same. bit_or_else (f d i) b (q - first_part g i)
-              (λ bits. bits_apart g v i q p inside (subst (λ (z : ℕ). Touches g z q) same u) t (λ parts. other (place, same, parts)) bits))
+          (λ bits. bits_apart g v i q p inside (subst (λ (z : ℕ). Touches g z q) same u) t (λ parts. other (place, same, parts)) bits))
           (λ _ _ _ _ _. refl) e j refl refl;
     }
 
@@ -90,7 +88,7 @@ takes_fill {A} g take f h takes d i p a r = record {
   own = r.own;
   all = r.all;
   out = λ k q j c l low t u.
-    let o = r.out k q j c l low t u in let e = a.round (k % g.depth) j in let m = a.more (k % g.depth) j c in omega arith;
+      let o = r.out k q j c l low t u in let e = a.round (k % g.depth) j in let m = a.more (k % g.depth) j c in omega arith;
 }
 
 -- the claim that has its piece laid pends in the seat n, and lacks the piece
@@ -109,10 +107,10 @@ laying_of g claim f send life who n i x pends inside t missing = record {
   touches = t;
   missing = missing;
   unlaid = let small = bit_lt (f (send.round % g.depth) i) (x.partition - first_part g i) in
-    elim (cases_eq (laid g (f (send.round % g.depth) i) i x.partition) 1) [
-      | inl one ↦ absurd (false≢true (sym missing ∙ (pends.laid i inside t).1 one))
-      | inr other ↦ omega arith
-    ];
+      elim (cases_eq (laid g (f (send.round % g.depth) i) i x.partition) 1) [
+        | inl one ↦ absurd (false≢true (sym missing ∙ (pends.laid i inside t).1 one))
+        | inr other ↦ omega arith
+      ];
 }
 
 pub claims_fill : (g : Shape) → IsShape g → (claim : ℕ → ℕ) (f h : ℕ → ℕ → ℕ) (send : SendSide) (life : ℕ → Life) (pending : ℕ → Option Pending) (who : ℕ → ℕ → ℕ) (n i : ℕ) (x : Pending)
@@ -122,34 +120,34 @@ claims_fill g v claim f h send life pending who n i x a lays at r = record {
   each = put_cases pending n (left_of g i x) (λ m o. (y : Pending) → o ≡ Some y → IsPending g claim h send life who m y)
       (λ y e. let on = on_from g v i x y e in subst (IsPending g claim h send life who n) (sym on.is) (own on.some))
       (λ m other y e.
-          let o = r.each m y e in
-          let differ : y.partition ≢ x.partition = λ same.
-              other (sym o.seat ∙ (subst (λ (z : ℕ). who y.round z ≡ who x.round x.partition) (sym same) (ap (λ (z : ℕ). who z x.partition) (o.round ∙ sym lays.pends.round)) ∙ lays.pends.seat)) in
-          record {
-            round = o.round;
-            partition = o.partition;
-            claimed = o.claimed;
-            marker = o.marker;
-            live = o.live;
-            seat = o.seat;
-            laid = λ j inside t.
-              let same = a.rest d j y.partition inside t (λ all. differ all.2) in let both = o.laid j inside t in
-              (λ l. same ∙ both.0 l, λ l. both.1 (sym same ∙ l));
-            some = o.some;
-          });
+      let o = r.each m y e in
+      let differ : y.partition ≢ x.partition = λ same.
+      other (sym o.seat ∙ (subst (λ (z : ℕ). who y.round z ≡ who x.round x.partition) (sym same) (ap (λ (z : ℕ). who z x.partition) (o.round ∙ sym lays.pends.round)) ∙ lays.pends.seat)) in
+      record {
+        round = o.round;
+        partition = o.partition;
+        claimed = o.claimed;
+        marker = o.marker;
+        live = o.live;
+        seat = o.seat;
+        laid = λ j inside t.
+            let same = a.rest d j y.partition inside t (λ all. differ all.2) in let both = o.laid j inside t in
+            (λ l. same ∙ both.0 l, λ l. both.1 (sym same ∙ l));
+        some = o.some;
+      });
   all = λ q j inside low t owed.
-    let was = unlaid q j owed.1 in
-    let o = r.all q j inside low t (owed.0, was) in
-    elim (cases_eq (who send.round q) n) [
-      | inl here ↦
-          let same : o.0 ≡ x = (let e : Some o.0 ≡ Some x = sym o.1 ∙ (ap pending here ∙ at) in cc) in
-          let part : q ≡ x.partition = sym o.2 ∙ ap (λ (z : Pending). z.partition) same in
-          let u : Touches g j x.partition = subst (Touches g j) part t in
-          let lacks : has (i ∷ x.laid) j ≡ false = left j low u (subst (λ (z : ℕ). laid g (h d j) j z ≡ 0) part owed.1) in
-          let on = goes_on g v i x j low u lacks in
-          (record x { laid = i ∷ x.laid }, ap (put pending n (left_of g i x)) here ∙ (put_here pending n (left_of g i x) ∙ on), sym part)
-      | inr other ↦ (o.0, put_else pending n (left_of g i x) (who send.round q) other ∙ o.1, o.2)
-    ];
+      let was = unlaid q j owed.1 in
+      let o = r.all q j inside low t (owed.0, was) in
+      elim (cases_eq (who send.round q) n) [
+        | inl here ↦
+            let same : o.0 ≡ x = (let e : Some o.0 ≡ Some x = sym o.1 ∙ (ap pending here ∙ at) in cc) in
+            let part : q ≡ x.partition = sym o.2 ∙ ap (λ (z : Pending). z.partition) same in
+            let u : Touches g j x.partition = subst (Touches g j) part t in
+            let lacks : has (i ∷ x.laid) j ≡ false = left j low u (subst (λ (z : ℕ). laid g (h d j) j z ≡ 0) part owed.1) in
+            let on = goes_on g v i x j low u lacks in
+            (record x { laid = i ∷ x.laid }, ap (put pending n (left_of g i x)) here ∙ (put_here pending n (left_of g i x) ∙ on), sym part)
+        | inr other ↦ (o.0, put_else pending n (left_of g i x) (who send.round q) other ∙ o.1, o.2)
+      ];
 }
   where
     d : ℕ
@@ -199,22 +197,22 @@ slots_fill g v claim take ret f h send recv slot who i p k a inside free same no
   home = λ e c low within unlent not_held. slots_cases slot d these (Home k) e c (λ z. (j : ℕ) × (z ≡ Home j))
       (λ _ _. (k, refl))
       (λ not. r.home e c low within
-          (λ both. unlent (both.0, (both.1.0, kept e c within not both.0 both.1.1)))
-          not_held);
+      (λ both. unlent (both.0, (both.1.0, kept e c within not both.0 both.1.1)))
+      not_held);
   tied = λ e c j low within. slots_cases slot d these (Home k) e c
       (λ z. z ≡ Home j → laid g (h e (piece_of g c)) (piece_of g c) (send_of g c) ≡ 1 → next_round ret (recv_of g c) ≤ round_in (h e (piece_of g c)) → j ≡ round_in (h e (piece_of g c)))
       (λ place t at _ _.
-          let both = cell c t in
-          let is : j ≡ k = cc in
-          let round : round_in (h e (piece_of g c)) ≡ send.round =
-              subst (λ (z : ℕ). round_in (h z (piece_of g c)) ≡ send.round) (sym place) (subst (λ (z : ℕ). round_in (h d z) ≡ send.round) (sym both.1) (a.round d i ∙ now)) in
-          is ∙ (same ∙ sym round))
+      let both = cell c t in
+      let is : j ≡ k = cc in
+      let round : round_in (h e (piece_of g c)) ≡ send.round =
+      subst (λ (z : ℕ). round_in (h z (piece_of g c)) ≡ send.round) (sym place) (subst (λ (z : ℕ). round_in (h d z) ≡ send.round) (sym both.1) (a.round d i ∙ now)) in
+      is ∙ (same ∙ sym round))
       (λ not at one late.
-          let t = cell_touches g c within in let b = cell_piece g c within in
-          let m = a.round e (piece_of g c) in
-          let was : laid g (f e (piece_of g c)) (piece_of g c) (send_of g c) ≡ 1 =
-              sym (a.rest e (piece_of g c) (send_of g c) b t (λ all. not (all.0, this c all.2 all.1))) ∙ one in
-          r.tied e c j low within at was (omega arith) ∙ sym m);
+      let t = cell_touches g c within in let b = cell_piece g c within in
+      let m = a.round e (piece_of g c) in
+      let was : laid g (f e (piece_of g c)) (piece_of g c) (send_of g c) ≡ 1 =
+      sym (a.rest e (piece_of g c) (send_of g c) b t (λ all. not (all.0, this c all.2 all.1))) ∙ one in
+      r.tied e c j low within at was (omega arith) ∙ sym m);
 }
   where
     d : ℕ
@@ -233,7 +231,7 @@ slots_fill g v claim take ret f h send recv slot who i p k a inside free same no
     full c t none =
         let both = cell c t in
         let one : laid g (h d (piece_of g c)) (piece_of g c) (send_of g c) ≡ 1 =
-            subst (λ (z : ℕ). laid g (h d z) z (send_of g c) ≡ 1) (sym both.1) (subst (λ (z : ℕ). laid g (h d i) i z ≡ 1) (sym both.0) a.here) in
+        subst (λ (z : ℕ). laid g (h d z) z (send_of g c) ≡ 1) (sym both.1) (subst (λ (z : ℕ). laid g (h d i) i z ≡ 1) (sym both.0) a.here) in
         omega arith
 
     unheld : (c : ℕ) → c < cells g → recv.round % g.depth ≡ d → these c ≡ true → IsHeld g take ret recv c → ⊥
@@ -242,9 +240,9 @@ slots_fill g v claim take ret f h send recv slot who i p k a inside free same no
         let whole = arrived (recv_of g c) (piece_of g c) (cell_recv g v c low) (cell_piece g c low) l.0 l.1 (cell_touches_recv g c low) in
         let one : laid g (f (recv.round % g.depth) (piece_of g c)) (piece_of g c) (send_of g c) ≡ 1 = whole.all (send_of g c) (cell_touches g c low) in
         let moved : laid g (f d i) i p ≡ 1 =
-            subst (λ (z : ℕ). laid g (f z i) i p ≡ 1) place
-                (subst (λ (z : ℕ). laid g (f (recv.round % g.depth) z) z p ≡ 1) both.1
-                    (subst (λ (z : ℕ). laid g (f (recv.round % g.depth) (piece_of g c)) (piece_of g c) z ≡ 1) both.0 one)) in
+        subst (λ (z : ℕ). laid g (f z i) i p ≡ 1) place
+        (subst (λ (z : ℕ). laid g (f (recv.round % g.depth) z) z p ≡ 1) both.1
+        (subst (λ (z : ℕ). laid g (f (recv.round % g.depth) (piece_of g c)) (piece_of g c) z ≡ 1) both.0 one)) in
         omega arith
 
     kept : (e c : ℕ) → c < cells g → ¬ ((e ≡ d) × (these c ≡ true)) → e ≡ d → laid g (f d (piece_of g c)) (piece_of g c) (send_of g c) ≡ 0 → laid g (h d (piece_of g c)) (piece_of g c) (send_of g c) ≡ 0

@@ -1,15 +1,15 @@
 -- What is left of a claim when one of its pieces is laid.
-use Rattle.std.proofs.Common.{◌≡◌, ◌≢◌, ◌⊎◌, inl, inr, ⊎_elim, ℕ, zero, suc, ◌+◌, ◌-◌, ◌<◌, ◌≤◌, Bool, true, false, cond, ◌==◌, ◌&&◌, ◌||◌, List, [], ◌∷◌, Option, Some, None, refl, sym, ap, ◌∙◌, subst, arith}
+use Rattle.std.proofs.Common.{◌≡◌, ◌≢◌, inl, inr, ℕ, zero, suc, ◌+◌, ◌<◌, ◌≤◌, Bool, true, false, cond, ◌&&◌, ◌||◌, List, ◌∷◌, Some, None, refl, sym, ap, subst, arith}
 use Rattle.std.specs.Prelude.{if◌then◌else◌, filter, nat_le, nat_lt}
 use Rattle.std.specs.List.{range_with_len, list_all}
-use Rattle.std.proofs.lemmas.Bool.{cases_lt, cases_eq, cases_Bool, eqb-true, eq-eqb, ne_eqb, and_parts, and_from, and_left, and_right, leb-true, le-leb, ltb-true, lt-ltb, false≢true}
+use Rattle.std.proofs.lemmas.Bool.{cases_eq, cases_Bool, eq-eqb, ne_eqb, and_parts, and_from, and_left, and_right, leb-true, le-leb, ltb-true, lt-ltb, false≢true}
 use Rattle.part_geometry.specs.Shape.{Shape, IsShape}
 use Rattle.part_geometry.specs.Pieces.{pieces, first_part, need_count, Touches}
 use Rattle.pair_core.specs.Core.{has}
 use Rattle.pair_core.specs.Reading.{touches, pieces_over}
 use Rattle.pair_core.specs.Steps.{left_of}
 use Rattle.pair_core.specs.declared.view.Pending.{Pending}
-use Rattle.pair_core.proofs.Cut.{Range, touch_range, range_touch}
+use Rattle.pair_core.proofs.Cut.{touch_range, range_touch}
 
 pub has_here : (i : ℕ) (xs : List ℕ) → has (i ∷ xs) i ≡ true
 has_here i xs = ap (λ (b : Bool). b || has xs i) (eq-eqb i i refl)
@@ -55,7 +55,7 @@ found test keep zero a e = absurd (false≢true (sym e))
 found test keep (suc n) a e =
     let end : a + suc n ≡ a + 1 + n = omega arith in
     found_next test keep a (a + suc n) (filter keep (range_with_len (a + 1) n)) (omega arith)
-        (λ l. subst (Fails test keep (a + 1)) (sym end) (found test keep n (a + 1) l)) e
+    (λ l. subst (Fails test keep (a + 1)) (sym end) (found test keep n (a + 1) l)) e
 
 -- the test of a piece and a partition that touch
 touches_yes : (g : Shape) → IsShape g → (p i : ℕ) → i < pieces g → Touches g i p → touches g p i ≡ true

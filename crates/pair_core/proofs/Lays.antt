@@ -1,25 +1,24 @@
 -- Laying a partition into a piece keeps soundness, and what is so where a claim pends.
-use Rattle.std.proofs.Common.{◌≡◌, ◌≢◌, ◌⊎◌, inl, inr, ⊎_elim, ℕ, ◌+◌, ◌-◌, ◌*◌, ◌/◌, ◌%◌, ◌^◌, ◌<◌, ◌≤◌, Bool, true, false, ◌==◌, ◌&&◌, List, [], ◌∷◌, Option, Some, None, refl, sym, ap, ◌∙◌, subst, arith, bit_or}
-use Rattle.std.specs.Prelude.{if◌then◌else◌}
+use Rattle.std.proofs.Common.{◌≡◌, inl, inr, ℕ, ◌-◌, ◌/◌, ◌%◌, ◌^◌, ◌<◌, ◌≤◌, false, ◌==◌, ◌&&◌, Option, Some, sym, ap, ◌∙◌, subst, arith, bit_or}
 use Rattle.std.proofs.lemmas.Bool.{cases_eq}
 use Rattle.gate_word.specs.Words.{round_in}
 use Rattle.part_geometry.specs.Shape.{Shape, IsShape}
 use Rattle.part_geometry.specs.Cells.{cells, send_of}
 use Rattle.part_geometry.specs.Pieces.{pieces, piece_of, first_part, Touches}
 use Rattle.pair_core.specs.Words.{bit}
-use Rattle.pair_core.specs.Names.{Name, Claim, Release, Take, Return, Piece, put, put_pair, put_word}
-use Rattle.pair_core.specs.Core.{Core, Slot, Home, Out, IsMarker, has, times}
-use Rattle.pair_core.specs.Reading.{part_bit, next_round, laid}
+use Rattle.pair_core.specs.Names.{Claim, Take, Return, Piece, put, put_pair, put_word}
+use Rattle.pair_core.specs.Core.{Core, Home, Out, IsMarker, has, times}
+use Rattle.pair_core.specs.Reading.{part_bit, laid}
 use Rattle.pair_core.specs.Steps.{wrote, put_slots, left_of, lays_piece}
-use Rattle.pair_core.specs.Moves.{Move, LayPiece, MayLay, IsAllowed, lays, after}
+use Rattle.pair_core.specs.Moves.{LayPiece, IsAllowed, lays, after}
 use Rattle.pair_core.specs.Sound.{IsClaimed, Sound}
 use Rattle.pair_core.specs.declared.view.Pending.{Pending}
 use Rattle.pair_core.specs.declared.view.Life.TheVariants.{Live}
-use Rattle.pair_core.proofs.Words.{bit_lt, later_or}
+use Rattle.pair_core.proofs.Words.{later_or}
 use Rattle.pair_core.proofs.Cut.{touch_range, bit_small, cell_piece, cell_touches, some_claims}
 use Rattle.pair_core.proofs.Frames.{sees, owns_else, unused_or}
 use Rattle.pair_core.proofs.Claims.{marker_not_one}
-use Rattle.pair_core.proofs.LayGroups.{Fills, fills, IsLaying, laying_of, pieces_fill, arrived_fill, takes_fill, claims_fill, slots_fill}
+use Rattle.pair_core.proofs.LayGroups.{Fills, fills, laying_of, pieces_fill, arrived_fill, takes_fill, claims_fill, slots_fill}
 
 module _ {A : Type 0} where
   -- the claim x that pends in the seat n is of the sender's round, whose word is open and has its partition
@@ -81,9 +80,9 @@ module _ {A : Type 0} where
       let lacks = unlaid_lacks g s n x (piece_of g c) r at (cell_piece g c inside) t missing in
       let claimed : IsClaimed (λ b. s.word (Claim b)) s.send (send_of g c) = subst (IsClaimed (λ b. s.word (Claim b)) s.send) (sym cell) h.claimed in
       let owed : laid g (s.word (Piece d (piece_of g c))) (piece_of g c) (send_of g c) ≡ 0 =
-          subst (λ (z : ℕ). laid g (s.word (Piece d (piece_of g c))) (piece_of g c) z ≡ 0) (sym cell) lacks in
+      subst (λ (z : ℕ). laid g (s.word (Piece d (piece_of g c))) (piece_of g c) z ≡ 0) (sym cell) lacks in
       let seat : r.who s.send.round (send_of g c) ≡ n =
-          ap (r.who s.send.round) cell ∙ (ap (λ (z : ℕ). r.who z x.partition) (sym h.round) ∙ h.seat) in
+      ap (r.who s.send.round) cell ∙ (ap (λ (z : ℕ). r.who z x.partition) (sym h.round) ∙ h.seat) in
       r.slots.lent c inside (claimed, owed) ∙ ap (λ (z : ℕ). Out z) seat
 
   -- the state after the step, where the place, the round and the partition are named
@@ -141,14 +140,14 @@ module _ {A : Type 0} where
   lays_piece_keeps g v s n p i r ok =
       let x = ok.0 in let may = ok.2 in
       subst (λ (o : Option Pending). Sound g (lays g n i o s)) (sym ok.1)
-          (laid_keeps g v s n i x r ok.1 may.piece (subst (Touches g i) (sym may.partition) may.touches) may.missing)
+      (laid_keeps g v s n i x r ok.1 may.piece (subst (Touches g i) (sym may.partition) may.touches) may.missing)
 
   -- what the words and the slots say where a partition may be laid into a piece
   pub lay_lacks : (g : Shape) (s : Core A) (n p i : ℕ) → Sound g s → IsAllowed g s (LayPiece n p i) → laid g (s.word (Piece (s.send.round % g.depth) i)) i p ≡ 0
   lay_lacks g s n p i r ok =
       let x = ok.0 in let may = ok.2 in
       subst (λ (z : ℕ). laid g (s.word (Piece (s.send.round % g.depth) i)) i z ≡ 0) may.partition
-          (unlaid_lacks g s n x i r ok.1 may.piece (subst (Touches g i) (sym may.partition) may.touches) may.missing)
+      (unlaid_lacks g s n x i r ok.1 may.piece (subst (Touches g i) (sym may.partition) may.touches) may.missing)
 
   pub lay_out : (g : Shape) (s : Core A) (n p i c : ℕ) → Sound g s → IsAllowed g s (LayPiece n p i) → c < cells g → send_of g c ≡ p → piece_of g c ≡ i
       → s.slot (s.send.round % g.depth) c ≡ Out n
