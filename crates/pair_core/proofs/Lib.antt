@@ -12,3 +12,9 @@ pub mod Full
 pub mod Told
 pub mod HistorySend
 pub mod HistoryMark
+pub mod ClaimGroups
+pub mod ClaimMarks
+pub mod Claims
+pub mod LayLists
+pub mod LayGroups
+pub mod Lays
