@@ -18,3 +18,4 @@ pub mod Claims
 pub mod LayLists
 pub mod LayGroups
 pub mod Lays
+pub mod HistoryRecv

@@ -68,3 +68,11 @@ last_oldest depth k low high = elim (cases_lt k depth) [
       subst (λ (z : ℕ). last_round depth k z ≡ back) place
           (subst (λ (z : ℕ). last_round depth z (back % depth) ≡ back) e (last_recent depth back (depth - 1) low high (omega arith) (omega arith)))
 ]
+
+-- a last round stands at its place
+pub last_place : (depth k d : ℕ) → 1 ≤ last_round depth k d → last_round depth k d % depth ≡ d
+last_place depth zero d = λ h. absurd (omega arith)
+last_place depth (suc k) d = elim (cases_eq (suc k % depth) d) [
+  | inl e ↦ subst (λ (b : Bool). 1 ≤ (if b then suc k else last_round depth k d) → (if b then suc k else last_round depth k d) % depth ≡ d) (sym (eq-eqb (suc k % depth) d e)) (λ _. e)
+  | inr n ↦ subst (λ (b : Bool). 1 ≤ (if b then suc k else last_round depth k d) → (if b then suc k else last_round depth k d) % depth ≡ d) (sym (ne_eqb (suc k % depth) d n)) (λ h. last_place depth k d h)
+]
