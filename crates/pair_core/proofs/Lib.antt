@@ -4,3 +4,5 @@ pub mod Rounds
 pub mod Cut
 pub mod Frames
 pub mod Loads
+pub mod ReceiveFacts
+pub mod ReceiveOpens
