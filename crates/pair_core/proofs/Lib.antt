@@ -6,3 +6,4 @@ pub mod Frames
 pub mod Loads
 pub mod ReceiveFacts
 pub mod ReceiveOpens
+pub mod ReceiveTakes

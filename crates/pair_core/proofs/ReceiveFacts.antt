@@ -1,6 +1,7 @@
 -- Words of 32 partitions each of which one was changed, and what the receive side knows of pieces.
-use Rattle.std.proofs.Common.{◌≡◌, ◌≢◌, ◌⊎◌, inl, inr, ⊎_elim, ℕ, ◌+◌, ◌-◌, ◌*◌, ◌/◌, ◌%◌, ◌^◌, ◌<◌, ◌≤◌, refl, sym, ap, ◌∙◌, subst, arith, bit_or}
-use Rattle.std.proofs.lemmas.Bool.{cases_lt, cases_eq}
+use Rattle.std.proofs.Common.{◌≡◌, ◌≢◌, ◌⊎◌, inl, inr, ⊎_elim, ℕ, ◌+◌, ◌-◌, ◌*◌, ◌/◌, ◌%◌, ◌^◌, ◌<◌, ◌≤◌, Bool, true, false, ◌==◌, refl, sym, ap, ◌∙◌, subst, arith, bit_or}
+use Rattle.std.specs.Prelude.{if◌then◌else◌, ◌&&◌}
+use Rattle.std.proofs.lemmas.Bool.{cases_lt, cases_eq, eq-eqb, ne_eqb, and_from, and_left, and_right}
 use Rattle.gate_word.specs.Words.{round_in}
 use Rattle.gate_word.specs.Order.{IsLater}
 use Rattle.part_geometry.specs.Shape.{Shape, IsShape}
@@ -8,17 +9,18 @@ use Rattle.part_geometry.specs.Cells.{cells, send_of, recv_of}
 use Rattle.part_geometry.specs.Pieces.{pieces, piece_of, first_part, Touches, TouchesRecv}
 use Rattle.pair_core.specs.Words.{bit, next, empty}
 use Rattle.pair_core.specs.Names.{Name, Claim, Release, Take, Return, Piece, claim_words, take_words, Fits, put, put_word}
-use Rattle.pair_core.specs.Core.{Core}
+use Rattle.pair_core.specs.Core.{Core, Slot, Home, Out}
 use Rattle.pair_core.specs.Reading.{part_bit, next_round, laid, IsFull, last_round}
 use Rattle.pair_core.specs.Moves.{IsRecvActive, AreSeen}
-use Rattle.pair_core.specs.Sound.{Progress, Pieces, Sound}
+use Rattle.pair_core.specs.Sound.{Progress, Pieces, IsLent, Sound}
+use Rattle.pair_core.specs.Steps.{put_slots}
 use Rattle.pair_core.specs.declared.view.SendSide.{SendSide}
 use Rattle.pair_core.specs.declared.view.RecvSide.{RecvSide}
 use Rattle.pair_core.specs.declared.view.Life.TheVariants.{Live, Spent}
 use Rattle.pair_core.proofs.Words.{bit_lt, bit_or_here, bit_or_else, bit_or_more, round_or, later_round, later_bit}
 use Rattle.pair_core.proofs.Puts.{put_here, put_else, put_cases}
 use Rattle.pair_core.proofs.Rounds.{place_lt, places_apart, last_le, last_recent}
-use Rattle.pair_core.proofs.Cut.{recv_touched, bit_small}
+use Rattle.pair_core.proofs.Cut.{recv_touched, bit_small, cell_piece, cell_touches, cell_touches_recv}
 
 -- the bit of a partition after one word was changed
 pub part_cases : (f : ℕ → ℕ) (t w q : ℕ) (P : ℕ → Type 0) → (q / 32 ≡ t → P (bit w (q % 32))) → (q / 32 ≢ t → P (part_bit f q)) → P (part_bit (put f t w) q)
@@ -110,3 +112,32 @@ module _ {A : Type 0} where
   pub seen_full : (g : Shape) → IsShape g → (s : Core A) → Sound g s → s.recv.released ≡ 0 → (q : ℕ) → AreSeen g (s.seen 1) s.recv.round q
       → (i : ℕ) → i < pieces g → TouchesRecv g i q → IsFull g (s.word (Piece (s.recv.round % g.depth) i)) s.recv.round i
   seen_full g v s r active q seen i inside t = stays_full g v s r active 1 i (rw r.lives.recv (λ e. cc)) inside (seen i inside t)
+
+-- the slot of a cell after those of a receive partition at a place became x
+pub recv_slots : (g : Shape) (slot : ℕ → ℕ → Slot) (place q : ℕ) (x : Slot) (d c : ℕ) (P : Slot → Type 0) → (d ≡ place → recv_of g c ≡ q → P x)
+    → (¬ ((d ≡ place) × (recv_of g c ≡ q)) → P (slot d c)) → P (put_slots slot place (λ b. recv_of g b == q) x d c)
+recv_slots g slot place q x d c P here rest =
+    let branch : Bool → Type 0 = λ b. P (if b then x else slot d c) in
+    elim (cases_eq d place) [
+      | inl e ↦ elim (cases_eq (recv_of g c) q) [
+        | inl f ↦ subst branch (sym (and_from (d == place) (recv_of g c == q) (eq-eqb d place e) (eq-eqb (recv_of g c) q f))) (here e f)
+        | inr o ↦ subst branch (sym (and_right (d == place) (recv_of g c == q) (ne_eqb (recv_of g c) q o))) (rest (λ both. o both.1))
+      ]
+      | inr o ↦ subst branch (sym (and_left (d == place) (recv_of g c == q) (ne_eqb d place o))) (rest (λ both. o both.0))
+    ]
+
+-- where the pieces over a receive partition are full in the receiver's round, no slot of it is lent
+abbrev pub AreFull : Shape → (ℕ → ℕ → ℕ) → RecvSide → ℕ → Type 0
+AreFull g piece recv q = (i : ℕ) → i < pieces g → TouchesRecv g i q → IsFull g (piece (recv.round % g.depth) i) recv.round i
+
+pub cell_full : (g : Shape) (piece : ℕ → ℕ → ℕ) (recv : RecvSide) (q c : ℕ) → AreFull g piece recv q → c < cells g → recv_of g c ≡ q
+    → IsFull g (piece (recv.round % g.depth) (piece_of g c)) recv.round (piece_of g c)
+cell_full g piece recv q c full inside e = full (piece_of g c) (cell_piece g c inside) (subst (TouchesRecv g (piece_of g c)) e (cell_touches_recv g c inside))
+
+pub not_lent : (g : Shape) (claim : ℕ → ℕ) (piece : ℕ → ℕ → ℕ) (send : SendSide) (recv : RecvSide) (q c : ℕ) → AreFull g piece recv q → c < cells g
+    → send.round % g.depth ≡ recv.round % g.depth → recv_of g c ≡ q → ¬ IsLent g claim piece send c
+not_lent g claim piece send recv q c full inside e f lent =
+    let i : ℕ = piece_of g c in let p : ℕ = send_of g c in
+    let has : laid g (piece (recv.round % g.depth) i) i p ≡ 1 = (cell_full g piece recv q c full inside f).all p (cell_touches g c inside) in
+    let lacks : laid g (piece (send.round % g.depth) i) i p ≡ 0 = lent.1 in
+    let same : laid g (piece (send.round % g.depth) i) i p ≡ 1 = ap (λ (z : ℕ). laid g (piece z i) i p) e ∙ has in omega arith
