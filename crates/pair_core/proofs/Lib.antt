@@ -7,3 +7,4 @@ pub mod Loads
 pub mod ReceiveFacts
 pub mod ReceiveOpens
 pub mod ReceiveTakes
+pub mod ReceiveEnds
