@@ -8,3 +8,4 @@ pub mod ReceiveFacts
 pub mod ReceiveOpens
 pub mod ReceiveTakes
 pub mod ReceiveEnds
+pub mod Enters
