@@ -9,3 +9,4 @@ pub mod ReceiveOpens
 pub mod ReceiveTakes
 pub mod ReceiveEnds
 pub mod Enters
+pub mod Joining
