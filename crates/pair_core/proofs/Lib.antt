@@ -10,3 +10,4 @@ pub mod ReceiveTakes
 pub mod ReceiveEnds
 pub mod Enters
 pub mod Joining
+pub mod ReceiveMarks
