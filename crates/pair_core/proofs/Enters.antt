@@ -1,24 +1,24 @@
 -- A seat's first event, loads, and what a seat learns keep soundness.
-use Rattle.std.proofs.Common.{◌≡◌, ◌≢◌, ◌⊎◌, inl, inr, ⊎_elim, ℕ, suc, ◌+◌, ◌-◌, ◌*◌, ◌/◌, ◌%◌, ◌^◌, ◌<◌, ◌≤◌, Bool, true, false, ◌==◌, List, [], ◌∷◌, length, Option, Some, None, refl, sym, ap, ◌∙◌, subst, arith}
+use Rattle.std.proofs.Common.{◌≡◌, ◌≢◌, inl, inr, ⊎_elim, ℕ, ◌+◌, ◌%◌, ◌<◌, ◌≤◌, Bool, ◌==◌, List, ◌∷◌, Option, Some, refl, sym, ap, ◌∙◌, subst, arith}
 use Rattle.std.specs.Prelude.{if◌then◌else◌}
 use Rattle.std.proofs.lemmas.Bool.{cases_lt, cases_eq, eq-eqb, ne_eqb}
 use Rattle.gate_word.specs.Words.{round_in}
-use Rattle.gate_word.specs.Order.{IsLater, IsPartialOrder}
+use Rattle.gate_word.specs.Order.{IsLater}
 use Rattle.gate_word.proofs.Laws.{order}
-use Rattle.part_geometry.specs.Shape.{Shape, IsShape}
+use Rattle.part_geometry.specs.Shape.{Shape}
 use Rattle.part_geometry.specs.Cells.{cells, send_of}
-use Rattle.pair_core.specs.Names.{Name, Claim, Release, Take, Return, Piece, Fits, claim_words, take_words, put, put_word}
-use Rattle.pair_core.specs.Core.{Core, Slot, Out, IsMarker, IsWatcher, times}
-use Rattle.pair_core.specs.Steps.{counted, entered, enters, loads}
+use Rattle.pair_core.specs.Names.{Name, Claim, Release, Take, Return, Piece, Fits, put}
+use Rattle.pair_core.specs.Core.{Core, Slot, Out, IsMarker, IsWatcher}
+use Rattle.pair_core.specs.Steps.{counted, entered, enters}
 use Rattle.pair_core.specs.Moves.{IsAllowed, after, LoadClaim, LoadPiece, LoadRelease, Split, Rise}
-use Rattle.pair_core.specs.Sound.{Progress, Gates, Pieces, Receiving, Claims, IsPending, IsLent, Slots, Marks, Seen, Owns, occurrences, Counts, Lives, Sound}
+use Rattle.pair_core.specs.Sound.{Progress, Gates, Pieces, Receiving, Claims, IsLent, Slots, Marks, Seen, Owns, occurrences, Counts, Lives, Sound}
 use Rattle.pair_core.specs.declared.view.Mark.{Mark}
 use Rattle.pair_core.specs.declared.view.Pending.{Pending}
 use Rattle.pair_core.specs.declared.view.SendSide.{SendSide}
 use Rattle.pair_core.specs.declared.view.RecvSide.{RecvSide}
 use Rattle.pair_core.specs.declared.view.Life.{Life}
 use Rattle.pair_core.specs.declared.view.Life.TheVariants.{Blank, Live, Spent}
-use Rattle.pair_core.proofs.Puts.{put_here, put_else, put_cases}
+use Rattle.pair_core.proofs.Puts.{put_cases}
 use Rattle.pair_core.proofs.Loads.{loads_keeps}
 
 -- The groups read nothing of how many seats are out.
@@ -101,7 +101,7 @@ occurs_else n m ms other = ap (λ (b : Bool). (if b then 1 else 0) + occurrences
 -- a seat of the sort that had no view gets one
 pub counts_more : (IsSort : ℕ → Type 0) (life : ℕ → Life) (n count : ℕ) → IsSort n → life n ≢ Live → Counts IsSort life count → Counts IsSort (put life n Live) (count + 1)
 counts_more IsSort life n count sort dead h =
-    let none : occurrences n h.seats ≡ 0 = elim (cases_lt 0 (occurrences n h.seats)) [ | inl some ↦ absurd (dead (h.only n some).1) | inr not_some ↦ omega arith ] in
+    let none : occurrences n h.seats ≡ 0 = elim (cases_lt 0 (occurrences n h.seats)) [ inl some ↦ absurd (dead (h.only n some).1) | inr not_some ↦ omega arith ] in
     record {
       seats = n ∷ h.seats;
       number = let e = h.number in omega arith;

@@ -1,17 +1,17 @@
 -- Giving a partition back and releasing the round keep soundness.
-use Rattle.std.proofs.Common.{◌≡◌, ◌≢◌, ◌⊎◌, inl, inr, ⊎_elim, ℕ, ◌+◌, ◌-◌, ◌*◌, ◌/◌, ◌%◌, ◌^◌, ◌<◌, ◌≤◌, Bool, true, false, ◌==◌, refl, sym, ap, ◌∙◌, subst, arith, bit_or}
-use Rattle.std.proofs.lemmas.Bool.{cases_lt, cases_eq}
+use Rattle.std.proofs.Common.{◌≡◌, inl, inr, ℕ, ◌/◌, ◌%◌, ◌^◌, ◌<◌, ◌≤◌, ◌==◌, refl, sym, ap, ◌∙◌, arith, bit_or}
+use Rattle.std.proofs.lemmas.Bool.{cases_eq}
 use Rattle.gate_word.specs.Words.{round_in}
 use Rattle.part_geometry.specs.Shape.{Shape, IsShape}
 use Rattle.part_geometry.specs.Cells.{cells, send_of, recv_of}
-use Rattle.part_geometry.specs.Pieces.{pieces, piece_of}
-use Rattle.pair_core.specs.Words.{bit, next, empty}
-use Rattle.pair_core.specs.Names.{Name, Claim, Release, Take, Return, Piece, claim_words, take_words, put, put_word}
+use Rattle.part_geometry.specs.Pieces.{piece_of}
+use Rattle.pair_core.specs.Words.{empty}
+use Rattle.pair_core.specs.Names.{Claim, Release, Take, Return, Piece, take_words, put_word}
 use Rattle.pair_core.specs.Core.{Core, Slot, Home, Out}
-use Rattle.pair_core.specs.Reading.{part_bit, next_round}
+use Rattle.pair_core.specs.Reading.{part_bit}
 use Rattle.pair_core.specs.Steps.{put_slots}
 use Rattle.pair_core.specs.Moves.{IsRecvActive, IsAllowed, after, ReturnPart, StoreRelease}
-use Rattle.pair_core.specs.Sound.{Progress, Pieces, Receiving, Slots, Sound}
+use Rattle.pair_core.specs.Sound.{Progress, Receiving, Slots, Sound}
 use Rattle.pair_core.specs.declared.view.SendSide.{SendSide}
 use Rattle.pair_core.specs.declared.view.RecvSide.{RecvSide}
 use Rattle.pair_core.proofs.Words.{bit_lt, empty_round, later_or, later_newer}
@@ -54,10 +54,10 @@ slots_back g claim take ret piece send recv slot who q now full h = let place : 
       (λ other. h.home d c low inside l (λ y. not_held (y.0, (y.1.0, y.1.1, with_else ret q (recv_of g c) (λ f. other (y.0, f)) ∙ y.1.2))));
   tied = λ d c k low inside at has le. recv_slots g slot place q x d c (λ z. z ≡ Home k → k ≡ round_in (piece d (piece_of g c)))
       (λ e f _. absurd (
-          let one : part_bit (with_part ret q) (recv_of g c) ≡ 1 = ap (part_bit (with_part ret q)) f ∙ with_here ret q in
-          let word : round_in (with_part ret q (recv_of g c / 32)) ≡ recv.round = with_round ret q (recv_of g c / 32) ∙ (ap (λ (z : ℕ). round_in (ret (z / 32))) f ∙ now) in
-          let round = (cell_full g piece recv q c full inside f).round in
-          let round' : round_in (piece d (piece_of g c)) ≡ recv.round = ap (λ (z : ℕ). round_in (piece z (piece_of g c))) e ∙ round in omega arith))
+      let one : part_bit (with_part ret q) (recv_of g c) ≡ 1 = ap (part_bit (with_part ret q)) f ∙ with_here ret q in
+      let word : round_in (with_part ret q (recv_of g c / 32)) ≡ recv.round = with_round ret q (recv_of g c / 32) ∙ (ap (λ (z : ℕ). round_in (ret (z / 32))) f ∙ now) in
+      let round = (cell_full g piece recv q c full inside f).round in
+      let round' : round_in (piece d (piece_of g c)) ≡ recv.round = ap (λ (z : ℕ). round_in (piece z (piece_of g c))) e ∙ round in omega arith))
       (λ other at'. h.tied d c k low inside at' has (let a = with_round ret q (recv_of g c / 32) in let b = with_more ret q (recv_of g c) in omega arith)) at;
 }
 

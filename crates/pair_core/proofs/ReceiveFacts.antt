@@ -1,26 +1,26 @@
 -- Words of 32 partitions each of which one was changed, and what the receive side knows of pieces.
-use Rattle.std.proofs.Common.{◌≡◌, ◌≢◌, ◌⊎◌, inl, inr, ⊎_elim, ℕ, ◌+◌, ◌-◌, ◌*◌, ◌/◌, ◌%◌, ◌^◌, ◌<◌, ◌≤◌, Bool, true, false, ◌==◌, refl, sym, ap, ◌∙◌, subst, arith, bit_or}
-use Rattle.std.specs.Prelude.{if◌then◌else◌, ◌&&◌}
+use Rattle.std.proofs.Common.{◌≡◌, ◌≢◌, inl, inr, ℕ, ◌+◌, ◌-◌, ◌/◌, ◌%◌, ◌^◌, ◌<◌, ◌≤◌, Bool, ◌==◌, refl, sym, ap, ◌∙◌, subst, arith, bit_or}
+use Rattle.std.specs.Prelude.{if◌then◌else◌}
 use Rattle.std.proofs.lemmas.Bool.{cases_lt, cases_eq, eq-eqb, ne_eqb, and_from, and_left, and_right}
 use Rattle.gate_word.specs.Words.{round_in}
 use Rattle.gate_word.specs.Order.{IsLater}
 use Rattle.part_geometry.specs.Shape.{Shape, IsShape}
 use Rattle.part_geometry.specs.Cells.{cells, send_of, recv_of}
-use Rattle.part_geometry.specs.Pieces.{pieces, piece_of, first_part, Touches, TouchesRecv}
-use Rattle.pair_core.specs.Words.{bit, next, empty}
-use Rattle.pair_core.specs.Names.{Name, Claim, Release, Take, Return, Piece, claim_words, take_words, Fits, put, put_word}
-use Rattle.pair_core.specs.Core.{Core, Slot, Home, Out}
+use Rattle.part_geometry.specs.Pieces.{pieces, piece_of, first_part, TouchesRecv}
+use Rattle.pair_core.specs.Words.{bit, next}
+use Rattle.pair_core.specs.Names.{Claim, Release, Piece, put}
+use Rattle.pair_core.specs.Core.{Core, Slot}
 use Rattle.pair_core.specs.Reading.{part_bit, next_round, laid, IsFull, last_round}
-use Rattle.pair_core.specs.Moves.{IsRecvActive, AreSeen}
+use Rattle.pair_core.specs.Moves.{AreSeen}
 use Rattle.pair_core.specs.Sound.{Progress, Pieces, IsLent, Sound}
 use Rattle.pair_core.specs.Steps.{put_slots}
 use Rattle.pair_core.specs.declared.view.SendSide.{SendSide}
 use Rattle.pair_core.specs.declared.view.RecvSide.{RecvSide}
-use Rattle.pair_core.specs.declared.view.Life.TheVariants.{Live, Spent}
-use Rattle.pair_core.proofs.Words.{bit_lt, bit_or_here, bit_or_else, bit_or_more, round_or, later_round, later_bit}
-use Rattle.pair_core.proofs.Puts.{put_here, put_else, put_cases}
+use Rattle.pair_core.specs.declared.view.Life.TheVariants.{Spent}
+use Rattle.pair_core.proofs.Words.{bit_lt, bit_or_here, bit_or_else, round_or, later_round, later_bit}
+use Rattle.pair_core.proofs.Puts.{put_cases}
 use Rattle.pair_core.proofs.Rounds.{place_lt, places_apart, last_le, last_recent}
-use Rattle.pair_core.proofs.Cut.{recv_touched, bit_small, cell_piece, cell_touches, cell_touches_recv}
+use Rattle.pair_core.proofs.Cut.{bit_small, cell_piece, cell_touches, cell_touches_recv}
 
 -- the bit of a partition after one word was changed
 pub part_cases : (f : ℕ → ℕ) (t w q : ℕ) (P : ℕ → Type 0) → (q / 32 ≡ t → P (bit w (q % 32))) → (q / 32 ≢ t → P (part_bit f q)) → P (part_bit (put f t w) q)

@@ -1,22 +1,19 @@
 -- Whose marks are whose, which are there, and what the receive side may conclude of them.
-use Rattle.std.proofs.Common.{◌≡◌, ◌≢◌, ◌⊎◌, inl, inr, ⊎_elim, ℕ, ◌+◌, ◌-◌, ◌*◌, ◌/◌, ◌%◌, ◌^◌, ◌<◌, ◌≤◌, List, [], ◌∷◌, length, Option, Some, None, refl, sym, ap, ◌∙◌, subst, arith}
+use Rattle.std.proofs.Common.{◌≡◌, ◌≢◌, inl, inr, ⊎_elim, ℕ, ◌+◌, ◌/◌, ◌%◌, ◌<◌, ◌≤◌, List, [], ◌∷◌, length, Option, Some, None, refl, sym, ap, ◌∙◌, arith}
 use Rattle.std.proofs.lemmas.Bool.{cases_lt, cases_eq}
 use Rattle.gate_word.specs.Words.{round_in}
 use Rattle.part_geometry.specs.Shape.{Shape, IsShape}
-use Rattle.part_geometry.specs.Cells.{cells, send_of, recv_of}
 use Rattle.part_geometry.specs.Pieces.{pieces, Touches, TouchesRecv}
 use Rattle.pair_core.specs.Words.{bit}
-use Rattle.pair_core.specs.Names.{Name, Claim, Release, Take, Return, Piece, claim_words, take_words}
+use Rattle.pair_core.specs.Names.{Claim, Release, Take, Return, Piece}
 use Rattle.pair_core.specs.Core.{Core, IsMarker, times}
 use Rattle.pair_core.specs.Reading.{part_bit, next_round, laid, IsFull}
-use Rattle.pair_core.specs.Moves.{IsSendIdle, IsRecvActive, AreSeen}
-use Rattle.pair_core.specs.Sound.{Gates, Counts, occurrences, Sound}
+use Rattle.pair_core.specs.Moves.{IsSendIdle, AreSeen}
+use Rattle.pair_core.specs.Sound.{Gates, occurrences, Sound}
 use Rattle.pair_core.specs.declared.view.Mark.{Mark}
 use Rattle.pair_core.specs.declared.view.Pending.{Pending}
 use Rattle.pair_core.specs.declared.view.SendSide.{SendSide}
-use Rattle.pair_core.specs.declared.view.Life.{Life}
-use Rattle.pair_core.specs.declared.view.Life.TheVariants.{Blank, Live, Spent}
-use Rattle.pair_core.proofs.Words.{bit_lt}
+use Rattle.pair_core.specs.declared.view.Life.TheVariants.{Live}
 use Rattle.pair_core.proofs.Rounds.{place_lt}
 use Rattle.pair_core.proofs.Cut.{claim_word, take_word, touch_part, some_claims}
 use Rattle.pair_core.proofs.ReceiveFacts.{piece_le, in_round, seen_full}

@@ -1,22 +1,20 @@
 -- The steps that open a round of the receive side keep soundness.
-use Rattle.std.proofs.Common.{◌≡◌, ◌≢◌, ◌⊎◌, inl, inr, ⊎_elim, ℕ, ◌+◌, ◌-◌, ◌*◌, ◌/◌, ◌%◌, ◌^◌, ◌<◌, ◌≤◌, List, refl, sym, ap, ◌∙◌, subst, arith, bit_or}
-use Rattle.std.proofs.lemmas.Bool.{cases_lt, cases_eq}
+use Rattle.std.proofs.Common.{◌≡◌, ◌⊎◌, inl, inr, ℕ, ◌+◌, ◌/◌, ◌%◌, ◌<◌, ◌≤◌, List, refl, sym, ap, ◌∙◌, arith}
+use Rattle.std.proofs.lemmas.Bool.{cases_lt}
 use Rattle.gate_word.specs.Words.{round_in}
-use Rattle.gate_word.specs.Order.{IsLater}
 use Rattle.part_geometry.specs.Shape.{Shape, IsShape}
-use Rattle.part_geometry.specs.Cells.{cells, send_of, recv_of}
-use Rattle.part_geometry.specs.Pieces.{pieces, piece_of, first_part, Touches, TouchesRecv}
-use Rattle.pair_core.specs.Words.{bit, next, empty}
-use Rattle.pair_core.specs.Names.{Name, Claim, Release, Take, Return, Piece, claim_words, take_words, Fits, put, put_word}
+use Rattle.part_geometry.specs.Cells.{cells, recv_of}
+use Rattle.pair_core.specs.Words.{bit, empty}
+use Rattle.pair_core.specs.Names.{Name, Claim, Release, Take, Return, Piece, take_words, put, put_word}
 use Rattle.pair_core.specs.Core.{Core, Slot}
-use Rattle.pair_core.specs.Reading.{part_bit, next_round, laid, IsFull}
+use Rattle.pair_core.specs.Reading.{part_bit, next_round}
 use Rattle.pair_core.specs.Moves.{IsRecvActive, IsRecvIdle, IsAllowed, after, StoreReturn, StoreTake}
-use Rattle.pair_core.specs.Sound.{Progress, Receiving, Arrived, Slots, Takes, IsHeld, Owns, Sound}
+use Rattle.pair_core.specs.Sound.{Progress, Receiving, Slots, Takes, IsHeld, Owns, Sound}
 use Rattle.pair_core.specs.declared.view.SendSide.{SendSide}
 use Rattle.pair_core.specs.declared.view.RecvSide.{RecvSide}
 use Rattle.pair_core.specs.declared.view.Mark.{Mark}
-use Rattle.pair_core.proofs.Words.{bit_lt, empty_round, empty_bit, later_newer}
-use Rattle.pair_core.proofs.Puts.{put_here, put_else, put_cases, put_cases_both}
+use Rattle.pair_core.proofs.Words.{empty_round, empty_bit, later_newer}
+use Rattle.pair_core.proofs.Puts.{put_cases, put_cases_both}
 use Rattle.pair_core.proofs.Cut.{some_takes, cell_recv}
 use Rattle.pair_core.proofs.Frames.{sees, owns_here, unused_empty}
 use Rattle.pair_core.proofs.ReceiveFacts.{part_cases, next_same}
@@ -61,8 +59,8 @@ begins g take ret released send recv k t small p r (inl x) =
     }
 begins g take ret released send recv k t small p r (inr x) =
     let some = x.0 in let at = x.1 in let same = x.2 in
-    let none : recv.takes ≡ 0 = elim (cases_lt 0 recv.takes) [ | inl h ↦ let e = p.takes_last h in absurd (omega arith) | inr h ↦ omega arith ] in
-    let unreleased : recv.released ≡ 0 = elim (cases_lt 0 recv.released) [ | inl h ↦ let e = p.ends_last h in absurd (omega arith) | inr h ↦ omega arith ] in
+    let none : recv.takes ≡ 0 = elim (cases_lt 0 recv.takes) [ inl h ↦ let e = p.takes_last h in absurd (omega arith) | inr h ↦ omega arith ] in
+    let unreleased : recv.released ≡ 0 = elim (cases_lt 0 recv.released) [ inl h ↦ let e = p.ends_last h in absurd (omega arith) | inr h ↦ omega arith ] in
     let current = p.current in
     record {
       now = λ j low. let e = r.return_now j (omega arith) in omega arith;
@@ -142,7 +140,7 @@ opens g take ret released send recv t small all at p r = record {
   taken = λ q inside low. r.all_taken q inside (omega arith);
   fresh = λ q inside low. r.none_taken q inside (omega arith) (omega arith);
   kept = λ q inside. r.none_returned q inside (omega arith) (omega arith);
-  unreleased = elim (cases_lt 0 recv.released) [ | inl h ↦ let e = p.ends_last h in absurd (omega arith) | inr h ↦ omega arith ];
+  unreleased = elim (cases_lt 0 recv.released) [ inl h ↦ let e = p.ends_last h in absurd (omega arith) | inr h ↦ omega arith ];
 }
 
 receiving_take : (g : Shape) (take ret : ℕ → ℕ) (recv : RecvSide) (t : ℕ) → t < take_words g → recv.returns ≡ take_words g → Opens g take ret recv t → Receiving g take ret recv
@@ -211,10 +209,10 @@ module _ {A : Type 0} where
             (λ d i. s.word (Piece d i)) s.send s.recv record { round = k; returns = t + 1; takes = 0; released = 0; watchers = s.recv.watchers } s.slot r.who
             (λ c inside held. b.inactive held.0) (λ c inside held. let e = held.0.0 in absurd (omega arith))
             (λ c inside. next_same (λ j. s.word (Return j)) t (empty k) (recv_of g c) (λ e.
-                let q : ℕ = recv_of g c in let low = cell_recv g v c inside in
-                let a = empty_round k in let b' = empty_bit k (q % 32) (omega arith) in
-                let c' = b.past t (omega arith) small in let d = b.returned q low (omega arith) in
-                let d' : bit (s.word (Return t)) (q % 32) ≡ 1 = ap (λ (z : ℕ). bit (s.word (Return z)) (q % 32)) (sym e) ∙ d in omega arith))
+            let q : ℕ = recv_of g c in let low = cell_recv g v c inside in
+            let a = empty_round k in let b' = empty_bit k (q % 32) (omega arith) in
+            let c' = b.past t (omega arith) small in let d = b.returned q low (omega arith) in
+            let d' : bit (s.word (Return t)) (q % 32) ≡ 1 = ap (λ (z : ℕ). bit (s.word (Return z)) (q % 32)) (sym e) ∙ d in omega arith))
             r.slots;
         marks = r.marks;
         takes = r.takes;
@@ -230,10 +228,10 @@ module _ {A : Type 0} where
       let b = opens g (λ j. s.word (Take j)) (λ j. s.word (Return j)) (round_in (s.word Release)) s.send s.recv t small all at r.progress r.receiving in
       let n : ℕ = s.recv.round in
       let same : (q : ℕ) → q < g.recv_parts → next_round (put (λ j. s.word (Take j)) t (empty n)) q ≡ next_round (λ j. s.word (Take j)) q =
-          λ q inside. next_same (λ j. s.word (Take j)) t (empty n) q (λ e.
-              let a = empty_round n in let b' = empty_bit n (q % 32) (omega arith) in
-              let c' = b.past t (omega arith) small in let d = b.taken q inside (omega arith) in
-              let d' : bit (s.word (Take t)) (q % 32) ≡ 1 = ap (λ (z : ℕ). bit (s.word (Take z)) (q % 32)) (sym e) ∙ d in omega arith) in
+      λ q inside. next_same (λ j. s.word (Take j)) t (empty n) q (λ e.
+      let a = empty_round n in let b' = empty_bit n (q % 32) (omega arith) in
+      let c' = b.past t (omega arith) small in let d = b.taken q inside (omega arith) in
+      let d' : bit (s.word (Take t)) (q % 32) ≡ 1 = ap (λ (z : ℕ). bit (s.word (Take z)) (q % 32)) (sym e) ∙ d in omega arith) in
       record {
         who = r.who;
         progress = progress_take g (round_in (s.word Release)) s.send s.recv t small all b.unreleased r.progress;

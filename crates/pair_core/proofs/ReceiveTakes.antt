@@ -1,24 +1,23 @@
 -- A take keeps soundness.
-use Rattle.std.proofs.Common.{◌≡◌, ◌≢◌, ◌⊎◌, inl, inr, ⊎_elim, ℕ, ◌+◌, ◌-◌, ◌*◌, ◌/◌, ◌%◌, ◌^◌, ◌<◌, ◌≤◌, Bool, true, false, ◌==◌, List, ◌∷◌, refl, sym, ap, ◌∙◌, subst, arith, bit_or}
-use Rattle.std.specs.Prelude.{if◌then◌else◌, ◌&&◌}
+use Rattle.std.proofs.Common.{◌≡◌, ◌⊎◌, inl, inr, ℕ, ◌+◌, ◌/◌, ◌%◌, ◌^◌, ◌<◌, ◌≤◌, Bool, false, ◌==◌, List, ◌∷◌, refl, sym, ap, ◌∙◌, subst, arith, bit_or}
+use Rattle.std.specs.Prelude.{if◌then◌else◌}
 use Rattle.std.proofs.lemmas.Bool.{cases_lt, cases_eq, eq-eqb, ne_eqb, and_from, and_left, and_right}
 use Rattle.gate_word.specs.Words.{round_in}
 use Rattle.part_geometry.specs.Shape.{Shape, IsShape}
 use Rattle.part_geometry.specs.Cells.{cells, send_of, recv_of}
-use Rattle.part_geometry.specs.Pieces.{pieces, piece_of, first_part, Touches, TouchesRecv}
-use Rattle.pair_core.specs.Words.{bit, next}
-use Rattle.pair_core.specs.Names.{Name, Claim, Release, Take, Return, Piece, claim_words, take_words, Fits, put, put_word}
+use Rattle.part_geometry.specs.Pieces.{TouchesRecv}
+use Rattle.pair_core.specs.Names.{Claim, Release, Take, Return, Piece, take_words, put_word}
 use Rattle.pair_core.specs.Core.{Core, Slot, Home, Out, times, is_mark}
-use Rattle.pair_core.specs.Reading.{part_bit, next_round, laid, IsFull}
+use Rattle.pair_core.specs.Reading.{part_bit, next_round, laid}
 use Rattle.pair_core.specs.Steps.{mark, put_slots}
 use Rattle.pair_core.specs.Moves.{IsRecvActive, IsAllowed, AreSeen, after, TakePart}
-use Rattle.pair_core.specs.Sound.{Progress, Receiving, Arrived, Slots, Takes, IsHeld, IsLent, Owns, Sound}
+use Rattle.pair_core.specs.Sound.{Receiving, Arrived, Slots, Takes, Sound}
 use Rattle.pair_core.specs.declared.view.SendSide.{SendSide}
 use Rattle.pair_core.specs.declared.view.RecvSide.{RecvSide}
 use Rattle.pair_core.specs.declared.view.Mark.{Mark}
 use Rattle.pair_core.proofs.Words.{bit_lt, later_or}
 use Rattle.pair_core.proofs.Rounds.{place_lt}
-use Rattle.pair_core.proofs.Cut.{take_word, cell_recv, cell_piece, cell_touches, cell_touches_recv}
+use Rattle.pair_core.proofs.Cut.{take_word, cell_touches}
 use Rattle.pair_core.proofs.Frames.{sees, owns_here, unused_or}
 use Rattle.pair_core.proofs.ReceiveFacts.{with_part, with_round, with_here, with_else, with_more, in_round, seen_full, recv_slots, AreFull, cell_full, not_lent}
 use Rattle.pair_core.proofs.ReceiveOpens.{owns_take}
@@ -65,7 +64,7 @@ module _ {A : Type 0} where
               let was : next_round take p ≡ k = ap (next_round take) f ∙ omega arith in
               elim (cases_eq j k) [
                 | inl e ↦
-                    let none : times j p takes ≡ 0 = elim (cases_lt 0 (times j p takes)) [ | inl have ↦ let o = (h.own j p have).2 in absurd (omega arith) | inr not_have ↦ omega arith ] in
+                    let none : times j p takes ≡ 0 = elim (cases_lt 0 (times j p takes)) [ inl have ↦ let o = (h.own j p have).2 in absurd (omega arith) | inr not_have ↦ omega arith ] in
                     let one : times j p (mark j p a ∷ takes) ≡ 1 = times_new j p a takes ∙ omega arith in
                     subst (λ (z : ℕ). times j p (mark z q a ∷ takes) ≡ 1) e (subst (λ (z : ℕ). times j p (mark j z a ∷ takes) ≡ 1) f one)
                 | inr other ↦ times_other j p k q a takes (λ both. other both.0) ∙ h.all j p low small (omega arith)
@@ -112,8 +111,15 @@ slots_takes g claim take ret piece send recv slot who q active kept full h = let
       (λ other. h.held c inside (x.0, sym (with_else take q (recv_of g c) (λ f. other (refl, f))) ∙ x.1, x.2));
   home = λ d c low inside l not_held. recv_slots g slot place q (Out 1) d c (λ z. (k : ℕ) × (z ≡ Home k))
       (λ e f. absurd (not_held (e, (active, ap (part_bit (with_part take q)) f ∙ with_here take q, ap (part_bit ret) f ∙ kept))))
-      (λ _. h.home d c low inside l (λ x. not_held (x.0, (x.1.0, (let one = x.1.1 in let more = with_more take q (recv_of g c) in
-          let small = bit_lt (with_part take q (recv_of g c / 32)) (recv_of g c % 32) in omega arith), x.1.2))));
+      (λ _. h.home d c low inside l (λ x. not_held (
+        x.0,
+        (
+          x.1.0,
+          (let one = x.1.1 in let more = with_more take q (recv_of g c) in
+              let small = bit_lt (with_part take q (recv_of g c / 32)) (recv_of g c % 32) in omega arith),
+          x.1.2,
+        ),
+      )));
   tied = λ d c k low inside at has le. h.tied d c k low inside
       (recv_slots g slot place q (Out 1) d c (λ z. z ≡ Home k → slot d c ≡ Home k) (λ _ _ e. absurd (cc)) (λ _ e. e) at) has le;
 }
@@ -148,8 +154,8 @@ module _ {A : Type 0} where
       let full = cell_full g (λ d i. s.word (Piece d i)) s.recv q c b.full small e in
       let lacks' : part_bit (λ t. s.word (Take t)) (recv_of g c) ≡ 0 = ap (part_bit (λ t. s.word (Take t))) e ∙ lacks in
       let h = r.slots.home d c (place_lt g.depth s.recv.round v.depth.0 v.depth.1) small
-          (λ x. not_lent g (λ j. s.word (Claim j)) (λ d i. s.word (Piece d i)) s.send s.recv q c b.full small (sym x.0) e x.1)
-          (λ x. let one = x.1.1 in omega arith) in
+      (λ x. not_lent g (λ j. s.word (Claim j)) (λ d i. s.word (Piece d i)) s.send s.recv q c b.full small (sym x.0) e x.1)
+      (λ x. let one = x.1.1 in omega arith) in
       let next_is : next_round (λ t. s.word (Return t)) (recv_of g c) ≡ s.recv.round = ap (next_round (λ t. s.word (Return t))) e ∙ (let f = b.kept in let k = b.back in omega arith) in
       let round = full.round in
       let same = r.slots.tied d c h.0 (place_lt g.depth s.recv.round v.depth.0 v.depth.1) small h.1 (full.all (send_of g c) (cell_touches g c small)) (omega arith) in
