@@ -19,3 +19,10 @@ pub mod LayLists
 pub mod LayGroups
 pub mod Lays
 pub mod HistoryRecv
+pub mod ReceiveFacts
+pub mod ReceiveOpens
+pub mod ReceiveTakes
+pub mod ReceiveEnds
+pub mod Enters
+pub mod Joining
+pub mod ReceiveMarks
