@@ -26,3 +26,4 @@ pub mod ReceiveEnds
 pub mod Enters
 pub mod Joining
 pub mod ReceiveMarks
+pub mod Keeps

@@ -43,13 +43,13 @@ mask_none s n j h high small = has_bit _ 0 (2 ^ n - 1) s (masked s n h) j small 
 few : (parts c : ℕ) → min 32 (parts - 32 * c) ≤ 32
 few parts c = omega arith
 
-part_there : (s : Bool) (parts p : ℕ) → p < parts → bit (word_of 0 s (part_mask parts (p / 32))) (p % 32) ≡ 1
+pub part_there : (s : Bool) (parts p : ℕ) → p < parts → bit (word_of 0 s (part_mask parts (p / 32))) (p % 32) ≡ 1
 part_there s parts p h = mask_bit s (min 32 (parts - 32 * (p / 32))) (p % 32) (few parts (p / 32)) (omega arith)
 
 part_absent : (s : Bool) (parts c j : ℕ) → ¬ (32 * c + j < parts) → j < 32 → bit (word_of 0 s (part_mask parts c)) j ≡ 0
 part_absent s parts c j h small = mask_none s (min 32 (parts - 32 * c)) j (few parts c) (omega arith) small
 
-part_round : (s : Bool) (parts c : ℕ) → round_in (word_of 0 s (part_mask parts c)) ≡ 0
+pub part_round : (s : Bool) (parts c : ℕ) → round_in (word_of 0 s (part_mask parts c)) ≡ 0
 part_round s parts c = (masked s (min 32 (parts - 32 * c)) (few parts c)).round
 
 part_shut : (parts c : ℕ) → bit (word_of 0 true (part_mask parts c)) 32 ≡ 1
@@ -59,7 +59,7 @@ part_open : (parts c : ℕ) → bit (word_of 0 false (part_mask parts c)) 32 ≡
 part_open parts c = has_open _ 0 _ (masked false (min 32 (parts - 32 * c)) (few parts c))
 
 -- the first word of a piece is full in round 0
-piece_full : (g : Shape) → IsShape g → (d i : ℕ) → i < pieces g → IsFull g (first_word g (Piece d i)) 0 i
+pub piece_full : (g : Shape) → IsShape g → (d i : ℕ) → i < pieces g → IsFull g (first_word g (Piece d i)) 0 i
 unfolding need
 piece_full g v d i inside = let le = need_count-le g v i inside in record {
   round = (masked false (need_count g i) le).round;
@@ -74,7 +74,7 @@ piece_clean g v d i j inside no_part small = let le = need_count-le g v i inside
 ]
 
 -- the release word
-zero_word : Has (word_of 0 false 0) 0 false 0
+pub zero_word : Has (word_of 0 false 0) 0 false 0
 zero_word = made 0 false 0 (omega arith)
 
 zero_clean : (j : ℕ) → j < 33 → bit (word_of 0 false 0) j ≡ 0

@@ -6,3 +6,4 @@ pub mod Steps
 pub mod Moves
 pub mod Sound
 pub mod History
+pub mod Laws
