@@ -27,3 +27,4 @@ pub mod Enters
 pub mod Joining
 pub mod ReceiveMarks
 pub mod Keeps
+pub mod Order
