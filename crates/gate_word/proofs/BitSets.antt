@@ -7,7 +7,7 @@ use Rattle.std.proofs.lemmas.Nat.{pow_pos}
 use Rattle.std.proofs.lemmas.Nat.Bits.{and_pow, bit_at-lt, bit_at_and, bit_at_or, same_from_bits}
 use Rattle.gate_word.specs.Order.{AreIn}
 
-set_one : (n i : ℕ) → IsBitSet n i → bit_at n i ≡ 1
+pub set_one : (n i : ℕ) → IsBitSet n i → bit_at n i ≡ 1
 set_one n i set =
     let small = bit_at-lt n i in
     elim (cases_eq (bit_at n i) 1) [
@@ -17,7 +17,7 @@ set_one n i set =
           absurd (set (and_pow n i ∙ ap (λ x. x * 2 ^ i) none ∙ (omega arith)))
     ]
 
-one_set : (n i : ℕ) → bit_at n i ≡ 1 → IsBitSet n i
+pub one_set : (n i : ℕ) → bit_at n i ≡ 1 → IsBitSet n i
 one_set n i one none =
     let some = pow_pos i in
     let e = and_pow n i ∙ ap (λ x. x * 2 ^ i) one in

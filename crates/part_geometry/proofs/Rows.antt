@@ -35,6 +35,29 @@ row-below f n count r c inside =
     let some = r.some in
     let h = row-le f n count r c (n - 1) (omega arith) (omega arith) in let l = r.last in omega arith
 
+-- a row takes each number between two of its numbers
+pub row-hits : (f : ℕ → ℕ) (n count : ℕ) → IsRow f n count → (c k j : ℕ) → c + k < n → f c ≤ j → j ≤ f (c + k) → (d : ℕ) × (c ≤ d) × (d ≤ c + k) × (f d ≡ j)
+row-hits f n count row c zero j inside low high =
+    let e : f (c + zero) ≡ f c = ap f (add-zero c) in (c, omega arith, omega arith, omega arith)
+row-hits f n count row c (suc k) j inside low high =
+    elim (cases_lt (f (c + k)) j) [
+      | inl above ↦
+          let step = row.step (c + k) (omega arith) in
+          let e : f (c + k + 1) ≡ f (c + suc k) = ap f (let z : c + k + 1 ≡ c + suc k = omega arith in z) in
+          (c + suc k, omega arith, omega arith, omega arith)
+      | inr below ↦
+          let h = row-hits f n count row c k j (omega arith) low below in
+          (h.0, h.1, (let u = h.2 in omega arith), h.3)
+    ]
+
+-- a row takes each number below its count
+pub row-all : (f : ℕ → ℕ) (n count : ℕ) → IsRow f n count → (j : ℕ) → j < count → (c : ℕ) × (c < n) × (f c ≡ j)
+row-all f n count row j inside =
+    let some = row.some in let last = row.last in let first = row.first in
+    let e : f (0 + (n - 1)) ≡ f (n - 1) = ap f (let z : 0 + (n - 1) ≡ n - 1 = omega arith in z) in
+    let h = row-hits f n count row 0 (n - 1) j (omega arith) (omega arith) (omega arith) in
+    (h.0, (let u = h.2 in omega arith), h.3)
+
 recv-step : (g : Shape) (v : IsShape g) (c : ℕ) → c < cells g → recv_of g (c + 1) ≤ recv_of g c + 1
 recv-step g v c inside =
     elim (cases_lt (end g c) ((recv_of g c + 1) * g.recv_bytes)) [
