@@ -53,14 +53,16 @@ full_now {A} g v s i r inside saw busy =
       | inr other ↦
           let at = round_place g s d i r place inside (omega arith) in
           absurd (places_apart g.depth s.recv.round (round_in w) v.depth.0 v.depth.1 (omega arith) (omega arith) (sym at))
-    ] in
-    (omega arith, record {
-      round = is;
-      all = λ p t.
-          let j = bit_small g v i p inside t in
-          let b = later_bit o w later (round ∙ sym is) (p - first_part g i) (omega arith) in
-          let one = saw.all p t in let small = bit_lt w (p - first_part g i) in omega arith;
-    })
+    ] in (
+      omega arith,
+      record {
+        round = is;
+        all = λ p t.
+            let j = bit_small g v i p inside t in
+            let b = later_bit o w later (round ∙ sym is) (p - first_part g i) (omega arith) in
+            let one = saw.all p t in let small = bit_lt w (p - first_part g i) in omega arith;
+      },
+    )
 
 -- a piece that is full in the receiver's round is out
 out_now : {A : Type 0} (g : Shape) → IsShape g → (s : Core A) (i : ℕ) → Sound g s → i < pieces g → 1 ≤ s.recv.round → s.recv.round ≤ s.send.round
@@ -139,7 +141,7 @@ told_take g claim take take' piece released send recv h q inside some old new sa
       takes = λ p l. elim (cases_eq p q) [
         | inl is ↦ subst (λ (z : ℕ). Upto (e ∷ h) (λ k. entry.Take k z) (next_round take' z)) (sym is)
             (upto_same (e ∷ h) (λ k. entry.Take k q) (recv.round + 1) _ (sym new)
-                (upto_add h (λ k. entry.Take k q) recv.round some (λ k x. cc) (upto_same h (λ k. entry.Take k q) _ recv.round old (t.takes q inside))))
+            (upto_add h (λ k. entry.Take k q) recv.round some (λ k x. cc) (upto_same h (λ k. entry.Take k q) _ recv.round old (t.takes q inside))))
         | inr other ↦ upto_same (e ∷ h) (λ k. entry.Take k p) _ _ (sym (same p l other))
             (upto_skip h e (λ k. entry.Take k p) _ (λ k x. other (let z : q ≡ p = cc in sym z)) (t.takes p l))
       ];
@@ -180,11 +182,11 @@ module _ {A : Type 0} where
   stores_return_adds g v s k t h r a told =
       let words = some_takes g v in
       let same : listen_bound g s.recv ≡ k + (0 + 1 - take_words g) = ⊎_elim
-          (λ (x : (t ≡ 0) × (s.recv.released ≡ 1) × (k ≡ s.recv.round + 1)). let all = r.progress.ends_last (let z = x.1 in omega arith) in let z = x.2 in omega arith)
-          (λ (x : (1 ≤ t) × (t ≡ s.recv.returns) × (k ≡ s.recv.round)).
-              let inside = a.0 in let is = x.1 in let z = x.2 in
-              let none : s.recv.takes ≡ 0 = elim (cases_lt 0 s.recv.takes) [ inl l ↦ let y = r.progress.takes_last l in absurd (omega arith) | inr l ↦ omega arith ] in omega arith)
-          a.2 in
+      (λ (x : (t ≡ 0) × (s.recv.released ≡ 1) × (k ≡ s.recv.round + 1)). let all = r.progress.ends_last (let z = x.1 in omega arith) in let z = x.2 in omega arith)
+      (λ (x : (1 ≤ t) × (t ≡ s.recv.returns) × (k ≡ s.recv.round)).
+      let inside = a.0 in let is = x.1 in let z = x.2 in
+      let none : s.recv.takes ≡ 0 = elim (cases_lt 0 s.recv.takes) [ inl l ↦ let y = r.progress.takes_last l in absurd (omega arith) | inr l ↦ omega arith ] in omega arith)
+      a.2 in
       record {
         tells = record {
           opens = told.opens;
@@ -211,35 +213,38 @@ module _ {A : Type 0} where
       let busy : s.recv.released ≡ 0 = elim (cases_lt 0 s.recv.released) [ inl l ↦ let x = r.progress.ends_last l in absurd (omega arith) | inr l ↦ omega arith ] in
       let current = r.progress.current in
       let same : (q : ℕ) → q < g.recv_parts → next_round (put take t w) q ≡ next_round take q = λ q l.
-          put_at take t w (λ z. round_in z + bit z (q % 32) ≡ next_round take q) (q / 32)
-              (λ e. let one = r.receiving.all_taken q l (omega arith) in let zero_bit = empty_bit s.recv.round (q % 32) (omega arith) in
-                  let x : round_in (take (q / 32)) ≡ round_in (take t) = ap (λ z. round_in (take z)) e in omega arith)
-              (λ _. refl) in
+      put_at take t w (λ z. round_in z + bit z (q % 32) ≡ next_round take q) (q / 32)
+      (λ e. let one = r.receiving.all_taken q l (omega arith) in let zero_bit = empty_bit s.recv.round (q % 32) (omega arith) in
+      let x : round_in (take (q / 32)) ≡ round_in (take t) = ap (λ z. round_in (take z)) e in omega arith)
+      (λ _. refl) in
       let now = told_take_words g claim take (put take t w) piece released s.send s.recv h same told in
       elim (cases_eq (t + 1) (take_words g)) [
         | inl last ↦ subst (λ (b : Bool). Adds g (after g s (StoreTake k t)) h (where_so b (entry.Listen k))) (sym (eq-eqb (t + 1) (take_words g) last)) (record {
-            tells = subst (λ (z : ℕ). Told g claim (put take t w) piece released s.send (record s.recv { takes = t + 1 }) (entry.Listen z ∷ h)) (sym a.1)
-                (told_listen g claim (put take t w) piece released s.send s.recv h t (omega arith) (sym is) last now);
-            order = λ o. (subst (λ (z : ℕ). Follows g h (entry.Listen z)) (sym a.1) (
+          tells = subst (λ (z : ℕ). Told g claim (put take t w) piece released s.send (record s.recv { takes = t + 1 }) (entry.Listen z ∷ h)) (sym a.1)
+              (told_listen g claim (put take t w) piece released s.send s.recv h t (omega arith) (sym is) last now);
+          order = λ o. (
+            subst (λ (z : ℕ). Follows g h (entry.Listen z)) (sym a.1) (
               omega arith,
               not_above h entry.Listen _ s.recv.round told.listens (omega arith),
               (λ two. (has_below h entry.Listen _ (s.recv.round - 1) told.listens (omega arith) (omega arith), has_below h entry.Release _ (s.recv.round - 1) told.releases (omega arith) (omega arith))),
-            ), o);
-          })
+            ),
+            o,
+          );
+        })
         | inr more ↦ subst (λ (b : Bool). Adds g (after g s (StoreTake k t)) h (where_so b (entry.Listen k))) (sym (ne_eqb (t + 1) (take_words g) more)) (record {
-            tells = record {
-              opens = now.opens;
-              shuts = now.shuts;
-              listens = upto_same h entry.Listen _ _ (omega arith) now.listens;
-              releases = now.releases;
-              marks = now.marks;
-              lays = now.lays;
-              outs = now.outs;
-              takes = now.takes;
-              within = now.within;
-            };
-            order = λ o. o;
-          })
+          tells = record {
+            opens = now.opens;
+            shuts = now.shuts;
+            listens = upto_same h entry.Listen _ _ (omega arith) now.listens;
+            releases = now.releases;
+            marks = now.marks;
+            lays = now.lays;
+            outs = now.outs;
+            takes = now.takes;
+            within = now.within;
+          };
+          order = λ o. o;
+        })
       ]
 
   pub takes_part_adds : (g : Shape) → IsShape g → (s : Core A) (q : ℕ) (a : A) (h : List Entry) → Sound g s → IsAllowed g s (TakePart q a) → Tells g s h
@@ -257,21 +262,25 @@ module _ {A : Type 0} where
       record {
         tells = told_take g claim take (put take t w) piece released s.send s.recv h q inside (omega arith) (omega arith) next
             (λ p l other. put_at take t w (λ z. round_in z + bit z (p % 32) ≡ next_round take p) (p / 32)
-                (λ f. let b = bit_or_else (take t) (q % 32) (p % 32) (λ x. other (omega arith)) in
-                    let x : round_in (take t) + bit (take t) (p % 32) ≡ next_round take p = ap (λ z. round_in (take z) + bit (take z) (p % 32)) (sym f) in omega arith)
-                (λ _. refl)) told;
-        order = λ o. ((
-          inside,
-          not_above h (λ k. entry.Take k q) _ s.recv.round (told.takes q inside) (omega arith),
-          has_below h entry.Listen _ s.recv.round told.listens (omega arith) (omega arith),
-          (λ i l touch.
-              let f = full_now g v s i r l (may.3 i l touch) busy in let near = f.0 in
-              has_below h (λ m. entry.Out m i) _ s.recv.round (told.outs i l) (omega arith) (out_now g v s i r l (omega arith) near f.1)),
-          (λ j m has.
-              let l = told.within.takes j m has in let b = ((told.takes m l j).0 has).1 in
-              let now = r.receiving.take_now (m / 32) (let y = take_word g m l in omega arith) in let small = bit_lt (take (m / 32)) (m % 32) in omega arith),
-        ), o);
+            (λ f. let b = bit_or_else (take t) (q % 32) (p % 32) (λ x. other (omega arith)) in
+            let x : round_in (take t) + bit (take t) (p % 32) ≡ next_round take p = ap (λ z. round_in (take z) + bit (take z) (p % 32)) (sym f) in omega arith)
+            (λ _. refl)) told;
+        order = λ o. (
+          (
+            inside,
+            not_above h (λ k. entry.Take k q) _ s.recv.round (told.takes q inside) (omega arith),
+            has_below h entry.Listen _ s.recv.round told.listens (omega arith) (omega arith),
+            (λ i l touch.
+                let f = full_now g v s i r l (may.3 i l touch) busy in let near = f.0 in
+                has_below h (λ m. entry.Out m i) _ s.recv.round (told.outs i l) (omega arith) (out_now g v s i r l (omega arith) near f.1)),
+            (λ j m has.
+                let l = told.within.takes j m has in let b = ((told.takes m l j).0 has).1 in
+                let now = r.receiving.take_now (m / 32) (let y = take_word g m l in omega arith) in let small = bit_lt (take (m / 32)) (m % 32) in omega arith),
+          ),
+          o,
+        );
       }
+
   -- what is given back adds nothing
   pub stores_release_adds : (g : Shape) → IsShape g → (s : Core A) (k : ℕ) (h : List Entry) → Sound g s → IsAllowed g s (StoreRelease k) → Tells g s h
       → Adds g (after g s (StoreRelease k)) h (entries g s (StoreRelease k))
@@ -281,12 +290,15 @@ module _ {A : Type 0} where
       record {
         tells = subst (λ (z : ℕ). Told g claim take piece (round_in (empty s.recv.round)) s.send (record s.recv { released = 1 }) (entry.Release z ∷ h)) (sym may.0)
             (told_release g claim take piece released (round_in (empty s.recv.round)) s.send s.recv h (omega arith) (empty_round s.recv.round) told);
-        order = λ o. (subst (λ (z : ℕ). Follows g h (entry.Release z)) (sym may.0) (
-          omega arith,
-          not_above h entry.Release _ s.recv.round told.releases (omega arith),
-          (λ q l.
-              let now = r.receiving.take_now (q / 32) (let y = take_word g q l in omega arith) in let one = (may.2 q l).0 in
-              has_below h (λ m. entry.Take m q) _ s.recv.round (told.takes q l) (omega arith) (omega arith)),
-          (λ two. has_below h entry.Release _ (s.recv.round - 1) told.releases (omega arith) (omega arith)),
-        ), o);
+        order = λ o. (
+          subst (λ (z : ℕ). Follows g h (entry.Release z)) (sym may.0) (
+            omega arith,
+            not_above h entry.Release _ s.recv.round told.releases (omega arith),
+            (λ q l.
+                let now = r.receiving.take_now (q / 32) (let y = take_word g q l in omega arith) in let one = (may.2 q l).0 in
+                has_below h (λ m. entry.Take m q) _ s.recv.round (told.takes q l) (omega arith) (omega arith)),
+            (λ two. has_below h entry.Release _ (s.recv.round - 1) told.releases (omega arith) (omega arith)),
+          ),
+          o,
+        );
       }

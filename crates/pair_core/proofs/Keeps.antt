@@ -75,6 +75,7 @@ module _ {A : Type 0} where
       counts : (b : Bool) → Tells g (counted b n s) h
       counts true = counts_told g s (s.send.markers + 1) s.recv.watchers h t
       counts false = counts_told g s s.send.markers (s.recv.watchers + 1) h t
+
       go : (l : Life) → Tells g (entered l n s) h
       go Blank = counts (n % 2 == 0)
       go Live = t
@@ -136,4 +137,4 @@ module _ {A : Type 0} where
       let old = reaches g v ms o.0 o.1 o.2 in
       let new = adds g v o.0 m o.1 old.sound o.3 old.tells in
       subst (λ (z : Core A × List Entry). Reaches g z.0 z.1) (λ i. (sym o.4 i, sym o.5 i))
-          (record { sound = keeps g v o.0 m old.sound o.3; tells = new.tells; order = new.order old.order })
+      (record { sound = keeps g v o.0 m old.sound o.3; tells = new.tells; order = new.order old.order })

@@ -66,23 +66,19 @@ pub record KeepsOrder (g : Shape) (h : List Entry) : Type 0 where
   pub part_is_marked_once : (k p : ℕ) → Where h (Mark k p) (λ past. ¬ Has past (Mark k p))
   pub part_is_laid_once : (k p i : ℕ) → Where h (Lay k p i) (λ past. ¬ Has past (Lay k p i))
   pub part_is_taken_once : (k q : ℕ) → Where h (Take k q) (λ past. ¬ Has past (Take k q))
-
   -- a piece goes out right after the last of its partitions was laid, and each of them was marked before
   pub out_right_after_a_lay : (k i : ℕ) → Where h (Out k i) (λ past. (p : ℕ) × (before : List Entry) × (past ≡ Lay k p i ∷ before))
   pub out_after_all_lays : (k i : ℕ) → Where h (Out k i) (λ past. (p : ℕ) → Touches g i p → Has past (Lay k p i))
   pub lay_after_its_mark : (k p i : ℕ) → Where h (Lay k p i) (λ past. Has past (Mark k p))
   pub out_after_all_marks : (k i : ℕ) → Where h (Out k i) (λ past. (p : ℕ) → Touches g i p → Has past (Mark k p))
-
   -- a mark stands between its round's opening and shutting, and a round is shut when all of its pieces are out
   pub mark_after_open : (k p : ℕ) → Where h (Mark k p) (λ past. Has past (Open k))
   pub mark_before_shut : (k p : ℕ) → Where h (Mark k p) (λ past. ¬ Has past (Shut k))
   pub shut_after_all_outs : (k : ℕ) → Where h (Shut k) (λ past. (i : ℕ) → i < pieces g → Has past (Out k i))
-
   -- a take follows its round's listening and every piece over its partition; a release follows all takes of its round
   pub take_after_listen : (k q : ℕ) → Where h (Take k q) (λ past. Has past (Listen k))
   pub take_after_all_outs : (k q : ℕ) → Where h (Take k q) (λ past. (i : ℕ) → i < pieces g → TouchesRecv g i q → Has past (Out k i))
   pub release_after_all_takes : (k : ℕ) → Where h (Release k) (λ past. (q : ℕ) → q < g.recv_parts → Has past (Take k q))
-
   -- rounds open, shut, listen and release in order 1, 2, 3; those of pieces and of takes never fall
   pub opens_in_order : AreInOrder (rounds opened h)
   pub shuts_in_order : AreInOrder (rounds shut h)
@@ -90,7 +86,6 @@ pub record KeepsOrder (g : Shape) (h : List Entry) : Type 0 where
   pub releases_in_order : AreInOrder (rounds released h)
   pub outs_never_fall : (k i : ℕ) → Where h (Out k i) (λ past. (j n : ℕ) → Has past (Out j n) → j ≤ k)
   pub takes_never_fall : (k q : ℕ) → Where h (Take k q) (λ past. (j n : ℕ) → Has past (Take j n) → j ≤ k)
-
   -- a round opens only after the release of the round `depth` before it
   pub open_after_release : (k : ℕ) → g.depth < k → Where h (Open k) (λ past. Has past (Release (k - g.depth)))
 

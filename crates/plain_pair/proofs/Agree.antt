@@ -9,14 +9,13 @@ use Rattle.part_geometry.specs.Shape.{Shape, IsShape}
 use Rattle.part_geometry.specs.Cells.{cells, send_of}
 use Rattle.part_geometry.specs.Pieces.{pieces, piece_of, first_part, need_count, needed}
 use Rattle.part_geometry.proofs.PieceFacts.{piece_of-holds, Touches-range, need_count-pos}
-use Rattle.part_geometry.proofs.Rows.{send-row}
+use Rattle.part_geometry.proofs.Rows.{row-hits, send-row}
 use Rattle.plain_pair.specs.Record.{Record, Round, no_marks, round_of, is_marked, is_out, round_out, pieces_out}
 use Rattle.plain_pair.specs.Kept.{Kept, has, is_whole}
 use Rattle.plain_pair.specs.Sound.{IsSound}
 use Rattle.plain_pair.specs.StandsFor.{StandsFor}
 use Rattle.plain_pair.proofs.Counts.{list_all-each}
 use Rattle.plain_pair.proofs.Rounds.{needed_below}
-use Rattle.plain_pair.proofs.Touching.{row-hits}
 use Rattle.plain_pair.proofs.Starts.{kept_out-whole}
 
 -- two tests that agree on a range both pass it or neither

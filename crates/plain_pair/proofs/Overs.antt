@@ -9,11 +9,10 @@ use Rattle.part_geometry.specs.Pieces.{pieces, piece_of, first_cell, last_cell}
 use Rattle.part_geometry.proofs.Bounds.{start-zero, start-last}
 use Rattle.part_geometry.proofs.Parts.{recv-mono}
 use Rattle.part_geometry.proofs.PieceFacts.{piece-ordered, piece_of-inside, piece_of-holds}
-use Rattle.part_geometry.proofs.Rows.{row-le, row-below, piece-row, recv-row}
+use Rattle.part_geometry.proofs.Rows.{row-le, row-below, row-hits, piece-row, recv-row}
 use Rattle.plain_pair.specs.declared.tables.Row.TheVariants.{Recv}
 use Rattle.plain_pair.specs.Tables.{AreCellsOf, ArePiecesOver}
 use Rattle.plain_pair.specs.Record.{is_over}
-use Rattle.plain_pair.proofs.Touching.{row-hits}
 
 -- a piece over q has a cell of q, and the piece of a cell of q is over q
 pub over-cell : (g : Shape) (v : IsShape g) (q i : ℕ) → i < pieces g → is_over g q i ≡ true → (d : ℕ) × (first_cell g i ≤ d) × (d ≤ last_cell g i) × (recv_of g d ≡ q)

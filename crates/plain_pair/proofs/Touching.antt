@@ -8,27 +8,12 @@ use Rattle.part_geometry.specs.Shape.{Shape, IsShape}
 use Rattle.part_geometry.specs.Cells.{cells}
 use Rattle.part_geometry.specs.Pieces.{pieces, piece_of, first_cell, last_cell, first_part, need_count, needed}
 use Rattle.part_geometry.proofs.PieceFacts.{piece-ordered, piece_of-inside, piece_of-holds, Touches-range, need_count-pos}
-use Rattle.part_geometry.proofs.Rows.{IsRow, row-le, row-below, piece-row}
+use Rattle.part_geometry.proofs.Rows.{row-le, row-below, row-hits, piece-row}
 use Rattle.plain_pair.specs.declared.tables.Row.TheVariants.{Send}
 use Rattle.plain_pair.specs.Tables.{AreCellsOf, ArePiecesOf}
 use Rattle.plain_pair.specs.Kept.{has}
 use Rattle.plain_pair.specs.Sound.{unmarked}
 use Rattle.plain_pair.proofs.Counts.{count-same}
-
--- a row takes each number between two of its numbers
-pub row-hits : (f : ℕ → ℕ) (n count : ℕ) → IsRow f n count → (c k j : ℕ) → c + k < n → f c ≤ j → j ≤ f (c + k) → (d : ℕ) × (c ≤ d) × (d ≤ c + k) × (f d ≡ j)
-row-hits f n count row c zero j inside low high =
-    let e : f (c + zero) ≡ f c = ap f (add-zero c) in (c, omega arith, omega arith, omega arith)
-row-hits f n count row c (suc k) j inside low high =
-    elim (cases_lt (f (c + k)) j) [
-      | inl above ↦
-          let step = row.step (c + k) (omega arith) in
-          let e : f (c + k + 1) ≡ f (c + suc k) = ap f (let z : c + k + 1 ≡ c + suc k = omega arith in z) in
-          (c + suc k, omega arith, omega arith, omega arith)
-      | inr below ↦
-          let h = row-hits f n count row c k j (omega arith) low below in
-          (h.0, h.1, (let u = h.2 in omega arith), h.3)
-    ]
 
 -- the pieces of a send partition, by its cells
 pub pieces_of_part : (g : Shape) (v : IsShape g) (p first next : ℕ) → AreCellsOf Send g p first next → ArePiecesOf g p (piece_of g first) (piece_of g (next - 1) + 1)
