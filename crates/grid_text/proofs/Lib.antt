@@ -5,3 +5,5 @@ pub mod ListFacts
 pub mod FaultFacts
 pub mod RowFacts
 pub mod ReadFacts
+pub mod PrintFacts
+pub mod MakeFacts
