@@ -1,7 +1,7 @@
 -- What it says of rows and fields that they have no fault.
-use Rattle.std.proofs.Common.{◌≡◌, ℕ, zero, suc, ◌+◌, ◌*◌, ◌<◌, ◌≤◌, Bool, true, false, ℤ, pos, unsigned_abs, List, [], ◌∷◌, ◌++◌, length, map, Option, Some, None, Result, Ok, Err, refl, sym, ap, ◌∙◌, arith}
+use Rattle.std.proofs.Common.{◌≡◌, ℕ, ◌+◌, ◌*◌, ◌≤◌, Bool, true, false, ℤ, pos, unsigned_abs, List, [], ◌∷◌, length, map, Result, Ok, Err, refl, sym, arith}
 use Rattle.std.proofs.Common.{inl, inr}
-use Rattle.std.specs.Prelude.{◌⊎◌, slice_get, unwrap_or, if◌then◌else◌, not, ◌||◌, ◌==◌, nat_lt}
+use Rattle.std.specs.Prelude.{◌⊎◌, unwrap_or, not, ◌==◌}
 use Rattle.std.specs.List.{All, enumerate_from, flat_map}
 use Rattle.std.proofs.lemmas.Bool.Decides.{nat_tests}
 use Rattle.std.proofs.lemmas.List.{length-append, length-map}
@@ -13,9 +13,9 @@ use Rattle.grid_text.specs.declared.number.NumberFault.TheVariants as number
 use Rattle.grid_text.specs.declared.rows.TextKind.{TextKind}
 use Rattle.grid_text.specs.declared.rows.TextKind.TheVariants.{Grid, Weights}
 use Rattle.grid_text.specs.Numbers.{bare, signed_of, within}
-use Rattle.grid_text.specs.Faults.{field_faults, is_bad_weights, is_too_large, limit_of, number_faults, numbered, row_faults, rows_faults, shape_faults, value_of, values_of, when, width}
+use Rattle.grid_text.specs.Faults.{field_faults, is_bad_weights, is_too_large, limit_of, number_faults, row_faults, rows_faults, shape_faults, value_of, values_of, when, width}
 use Rattle.grid_text.proofs.NumberFacts.{within-ok}
-use Rattle.grid_text.proofs.ListFacts.{append-none, first-none, numbered-push}
+use Rattle.grid_text.proofs.ListFacts.{append-none}
 
 -- a field whose number is within the limit
 pub field-ok : (limit row col : ℕ) (field text : List ℕ) (z : ℤ) → text ≡ bare field → Ok z ≡ within limit (signed_of text)

@@ -1,10 +1,10 @@
 -- One more cell of the generator.
-use Rattle.std.proofs.Common.{◌≡◌, ℕ, zero, suc, ◌+◌, ◌*◌, ℤ, List, [], ◌∷◌, ◌++◌, map, refl, sym, ap, ◌∙◌, arith, add-one}
+use Rattle.std.proofs.Common.{◌≡◌, ℕ, ◌+◌, ◌*◌, ℤ, List, [], ◌∷◌, ◌++◌, map, refl, sym, ap, ◌∙◌, arith, add-one}
 use Rattle.std.specs.List.{All, range_with_len}
 use Rattle.std.proofs.lemmas.List.Elements.{All-append, All-cons, All-nil}
 use Rattle.std.proofs.lemmas.List.FromFn.{map-range_with_len_more}
 use Rattle.stencil_def.specs.Limits.{IsValue}
-use Rattle.stencil_def.specs.Plane.{Plane, plane_of}
+use Rattle.stencil_def.specs.Plane.{plane_of}
 use Rattle.grid_text.specs.Making.{cell_at, cell_of, made_grid, number_after, number_at}
 
 pub number-none : (seed : ℕ) → seed ≡ number_at seed 0

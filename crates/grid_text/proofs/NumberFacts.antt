@@ -1,11 +1,10 @@
 -- What the parts of a number text say of it.
-use Rattle.std.proofs.Common.{◌≡◌, ℕ, zero, suc, ◌+◌, ◌*◌, ◌^◌, ◌<◌, ◌≤◌, Bool, true, false, ℤ, pos, negsuc, neg_ℤ, ◌-ℤ◌, unsigned_abs, List, [], ◌∷◌, Option, Some, None, Ok, Err, refl, sym, ap, ◌∙◌, arith, lit<, to_z, of_z, w64}
+use Rattle.std.proofs.Common.{◌≡◌, ℕ, zero, suc, ◌+◌, ◌*◌, ◌^◌, ◌<◌, ◌≤◌, Bool, true, false, ℤ, pos, neg_ℤ, ◌-ℤ◌, unsigned_abs, List, Option, Some, None, Ok, Err, refl, ap, arith, lit<, to_z, of_z, w64}
 use Rattle.std.proofs.Math.Nat.{pow-le-pow_right}
 use Rattle.std.proofs.lemmas.Bool.Decides.{nat_tests}
 use Rattle.std.proofs.lemmas.Int.{ints, to_z-of_z, fits_signed_from_abs}
 use Rattle.std.specs.Prelude.{if◌then◌else◌, nat_le}
-use Rattle.grid_text.specs.declared.number.NumberFault.{NumberFault}
-use Rattle.grid_text.specs.declared.number.NumberFault.TheVariants.{BadForm, OutOfRange}
+use Rattle.grid_text.specs.declared.number.NumberFault.TheVariants.{OutOfRange}
 use Rattle.grid_text.specs.Numbers.{sign_and_digits, signed_of, unsigned_of, with_sign, within}
 
 -- a value of few digits leaves room for one more

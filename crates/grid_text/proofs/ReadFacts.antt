@@ -1,20 +1,20 @@
 -- What rows without a fault make.
-use Rattle.std.proofs.Common.{◌≡◌, ℕ, ◌+◌, ◌*◌, ◌<◌, ◌≤◌, Bool, true, false, ℤ, unsigned_abs, List, [], ◌∷◌, ◌++◌, length, Option, Some, None, Result, Ok, Err, inl, inr, refl, sym, ap, ◌∙◌, arith}
-use Rattle.std.specs.Prelude.{◌⊎◌, slice_get, if◌then◌else◌, ◌==◌, nat_lt, vec_len}
+use Rattle.std.proofs.Common.{◌≡◌, ℕ, ◌+◌, ◌*◌, ◌<◌, ◌≤◌, true, false, List, [], ◌∷◌, length, Some, None, Ok, Err, inl, inr, refl, ap, arith}
+use Rattle.std.specs.Prelude.{◌⊎◌, slice_get, nat_lt}
 use Rattle.std.specs.List.{All}
 use Rattle.std.proofs.lemmas.Bool.Decides.{nat_tests}
 use Rattle.stencil_def.specs.Limits.{IsValue, IsWeight}
-use Rattle.stencil_def.specs.Plane.{Plane, plane_of}
-use Rattle.stencil_def.specs.Square.{Square, square_of}
+use Rattle.stencil_def.specs.Plane.{plane_of}
+use Rattle.stencil_def.specs.Square.{square_of}
 use Rattle.grid_text.specs.declared.fault.TextFault.{TextFault}
 use Rattle.grid_text.specs.declared.fault.TextFault.TheVariants as fault
 use Rattle.grid_text.specs.declared.rows.Rows.{Rows}
 use Rattle.grid_text.specs.declared.rows.TextKind.{TextKind}
 use Rattle.grid_text.specs.declared.rows.TextKind.TheVariants.{Grid, Weights}
-use Rattle.grid_text.specs.Faults.{answer, rows_faults, values_of, when, width}
-use Rattle.grid_text.specs.Reading.{AreKept, grid_of, missing_faults, text_faults, weights_of}
+use Rattle.grid_text.specs.Faults.{answer, width}
+use Rattle.grid_text.specs.Reading.{AreKept, grid_of, text_faults, weights_of}
 use Rattle.grid_text.specs.Records.{records_of}
-use Rattle.grid_text.proofs.ListFacts.{append-none, first-append}
+use Rattle.grid_text.proofs.ListFacts.{first-append}
 use Rattle.grid_text.proofs.FaultFacts.{grid-small, values-length, values-limit, weights-small}
 use Rattle.grid_text.proofs.RecordsLeft.{width-full}
 use Rattle.grid_text.proofs.RowFacts.{text-empty}

@@ -72,9 +72,9 @@ next-less s fields field (c ∷ rest) p e =
   where
     by : (b : Bool) → is_end (step default_config s c).1 ≡ b
         → (if b then Some (fields_after (step default_config s c).1 fields field, (step default_config s c).0, rest)
-           else next_record default_config (step default_config s c).0 (fields_after (step default_config s c).1 fields field) (field_after (step default_config s c).1 c field) rest) ≡ Some p
+        else next_record default_config (step default_config s c).0 (fields_after (step default_config s c).1 fields field) (field_after (step default_config s c).1 c field) rest) ≡ Some p
         → (next_record default_config (step default_config s c).0 (fields_after (step default_config s c).1 fields field) (field_after (step default_config s c).1 c field) rest ≡ Some p
-           → bound p.1 p.2 < bound (step default_config s c).0 rest)
+        → bound p.1 p.2 < bound (step default_config s c).0 rest)
         → bound p.1 p.2 < bound s (c ∷ rest)
     by true t h more =
         let ends = step-ends s c t in
@@ -149,11 +149,10 @@ unfolding Reached
 read-some a b fields h r on =
     let y = some-of (rest_of a) h.known in
     let m = rows-more (λ (text : Bor (List ℕ)). Some text.now) a b fields default_config a.state y.0 y.0 [] h.config y.1 (refl, refl) r in
-    let e = some-next a.state b.state y.0 m.0 m.2.0 fields m.2.1 m.2.2 m.2.3.0 m.2.3.1 in
-    (
+    let e = some-next a.state b.state y.0 m.0 m.2.0 fields m.2.1 m.2.2 m.2.3.0 m.2.3.1 in (
       record { config = on.0 ∙ h.config; trim = on.1 ∙ h.trim; ready = (on.4 h.ready).0; known = ap (λ (o : Option (List ℕ)). is_some o) m.1 },
       ap (λ (o : Option (List ℕ)). records_left a.state (unwrap_or o [])) y.1
-      ∙ (e ∙ ap (λ (o : Option (List ℕ)). fields ∷ records_left b.state (unwrap_or o [])) (sym m.1)),
+          ∙ (e ∙ ap (λ (o : Option (List ℕ)). fields ∷ records_left b.state (unwrap_or o [])) (sym m.1)),
     )
 
 -- a read that found none
@@ -189,9 +188,9 @@ next-full s fields field (c ∷ rest) p e =
   where
     by : (b : Bool) → is_end (step default_config s c).1 ≡ b
         → (if b then Some (fields_after (step default_config s c).1 fields field, (step default_config s c).0, rest)
-           else next_record default_config (step default_config s c).0 (fields_after (step default_config s c).1 fields field) (field_after (step default_config s c).1 c field) rest) ≡ Some p
+        else next_record default_config (step default_config s c).0 (fields_after (step default_config s c).1 fields field) (field_after (step default_config s c).1 c field) rest) ≡ Some p
         → (next_record default_config (step default_config s c).0 (fields_after (step default_config s c).1 fields field) (field_after (step default_config s c).1 c field) rest ≡ Some p
-           → 0 < length p.0)
+        → 0 < length p.0)
         → 0 < length p.0
     by true t h more =
         let q : (fields_after (step default_config s c).1 fields field, (step default_config s c).0, rest) ≡ p = cc in
@@ -208,5 +207,6 @@ width-full xs h = let e : length (strip_bom xs) + 1 ≡ suc (length (strip_bom x
         → 0 < length (records_next (records_from default_config m) o) → 0 < width (records_next (records_from default_config m) o)
     at m None ys e h = absurd (omega arith)
     at m (Some p) ys e h = next-full st.StartRecord [] [] ys p e
+
     first : (m : ℕ) (ys : List ℕ) → length ys + 1 ≡ suc m → 0 < length (records default_config ys) → 0 < width (records default_config ys)
     first m ys e h = rw e (at m (next_record default_config st.StartRecord [] [] ys) ys refl (rw e at h))

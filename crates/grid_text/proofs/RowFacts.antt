@@ -1,5 +1,5 @@
 -- One more row behind rows that are kept.
-use Rattle.std.proofs.Common.{◌≡◌, ℕ, zero, suc, ◌+◌, ◌<◌, ◌≤◌, Bool, true, false, ℤ, List, [], ◌∷◌, ◌++◌, length, map, Option, Some, None, refl, sym, ap, ◌∙◌, arith, append_assoc}
+use Rattle.std.proofs.Common.{◌≡◌, ℕ, ◌+◌, ◌<◌, true, false, ℤ, List, [], ◌∷◌, ◌++◌, length, map, Some, refl, sym, ap, ◌∙◌, arith}
 use Rattle.std.specs.Prelude.{slice_get, if◌then◌else◌, ◌==◌}
 use Rattle.std.specs.List.{flat_map}
 use Rattle.std.proofs.lemmas.Bool.Decides.{nat_tests}
@@ -11,8 +11,8 @@ use Rattle.grid_text.specs.declared.rows.Rows.{Rows}
 use Rattle.grid_text.specs.declared.rows.TextKind.{TextKind}
 use Rattle.grid_text.specs.Faults.{field_faults, limit_of, numbered, row_faults, rows_faults, shape_faults, value_of, values_of, width}
 use Rattle.grid_text.specs.Reading.{AreKept, text_faults}
-use Rattle.grid_text.proofs.ListFacts.{append-none, first-append, numbered-append, numbered-front, numbered-push}
-use Rattle.grid_text.proofs.FaultFacts.{shape-few, shape-same}
+use Rattle.grid_text.proofs.ListFacts.{first-append, numbered-front, numbered-push}
+use Rattle.grid_text.proofs.FaultFacts.{shape-same}
 
 -- how wide the rows are with one more
 pub cols-push : (kind : TextKind) (before : List (List (List ℕ))) (fields : List (List ℕ)) (old : Rows) → AreKept kind before old

@@ -1,5 +1,5 @@
 -- How the spaces at the end of a text go.
-use Rattle.std.proofs.Common.{◌≡◌, ℕ, List, [], ◌∷◌, ◌++◌, reverse, refl, ap, ◌∙◌}
+use Rattle.std.proofs.Common.{ℕ, List, reverse}
 use Rattle.grid_text.specs.Numbers.{from_first}
 
 -- a text without the spaces at its end

@@ -1,5 +1,5 @@
 -- What is wrong with a text: its faults in the order in which they are tried. The first is the answer.
-use Rattle.std.specs.Prelude.{ℕ, ◌+◌, ◌*◌, ◌==◌, Bool, ◌&&◌, ◌||◌, not, nat_lt, if◌then◌else◌, ℤ, pos, List, [], ◌∷◌, ◌++◌, length, map, Option, Some, None, unwrap_or, Result, Ok, Err}
+use Rattle.std.specs.Prelude.{ℕ, ◌*◌, ◌==◌, Bool, ◌||◌, not, nat_lt, if◌then◌else◌, ℤ, pos, List, [], ◌∷◌, ◌++◌, length, map, unwrap_or, Result, Ok, Err}
 use Rattle.std.specs.List.{enumerate_from, flat_map}
 use Rattle.grid_text.specs.declared.fault.TextFault.{TextFault}
 use Rattle.grid_text.specs.declared.fault.TextFault.TheVariants as fault

@@ -9,6 +9,8 @@ mod read;
 mod records;
 mod rows;
 mod summary;
+#[cfg(test)]
+mod tests;
 
 pub use fault::TextFault;
 pub use make::make_grid;

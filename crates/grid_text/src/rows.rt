@@ -67,7 +67,9 @@ fn shape_fault(kind: TextKind, cols: usize, row: u32, count: usize) -> Option<Te
     match kind {
         TextKind::Grid if is_too_large(cols, row) => Some(TextFault::TooLarge { row }),
         TextKind::Grid if count != cols => Some(TextFault::Ragged { row }),
-        TextKind::Weights if is_bad_weights(cols, row, count) => Some(TextFault::BadWeights { row }),
+        TextKind::Weights if is_bad_weights(cols, row, count) => Some(TextFault::BadWeights {
+            row,
+        }),
         _ => None,
     }
 }

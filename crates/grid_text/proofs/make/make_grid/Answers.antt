@@ -1,5 +1,4 @@
-use Rattle.std.proofs.Common.{◌≡◌, ◌*◌, ◌∙◌, ap, sym, arith, rules, FitsSigned, w64}
-use Rattle.std.specs.List.{All}
+use Rattle.std.proofs.Common.{◌∙◌, ap, sym, arith, rules, FitsSigned, w64}
 use Rattle.std.proofs.lemmas.Int.{to_z-of_z}
 use Rattle.std.proofs.lemmas.List.Elements.{All-nil}
 use Rattle.stencil_def.specs.Limits.{IsValue}

@@ -1,6 +1,4 @@
-use Rattle.std.proofs.Common.{◌≡◌, ◌∙◌, ◌<◌, ◌^◌, ap, sym, refl, arith, Some, None, true, false}
-use Rattle.std.specs.Prelude.{Ok}
-use Rattle.grid_text.specs.Numbers.{signed_of, with_sign, within}
+use Rattle.std.proofs.Common.{◌∙◌, sym, refl, arith, true, false}
 use Rattle.grid_text.proofs.NumberFacts.{kept, negated, signed-found, signed-none, within-large, within-small}
 use Rattle.grid_text.proofs.number.signed_within.Goals as goal
 

@@ -2,7 +2,7 @@ use Rattle.grid_text.specs.Printing.{row_text}
 use Rattle.std.specs.Fmt.{signed_decimal}
 use Rattle.std.proofs.lemmas.Int.{to_z-of_z}
 use Rattle.std.proofs.lemmas.List.{take_all}
-use Rattle.std.proofs.Common.{arith, rules, ◌≡◌, take, get_or, pos, append_assoc, ◌∙◌, ap, List, ℕ, ◌++◌, ◌∷◌, [], sym, FitsSigned, w64}
+use Rattle.std.proofs.Common.{arith, rules, get_or, pos, append_assoc, ◌∙◌, ap, List, ℕ, ◌++◌, ◌∷◌, [], FitsSigned, w64}
 use Rattle.grid_text.proofs.PrintFacts.{text-more}
 use Rattle.grid_text.proofs.print.push_row.Goals as goal
 

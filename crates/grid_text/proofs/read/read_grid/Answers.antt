@@ -1,4 +1,4 @@
-use Rattle.std.proofs.Common.{◌≡◌, rules}
+use Rattle.std.proofs.Common.{rules}
 use Rattle.std.proofs.lemmas.Result.{err_from_is_err_and}
 use Rattle.grid_text.specs.declared.rows.TextKind.TheVariants.{Grid}
 use Rattle.grid_text.proofs.ReadFacts.{grid-fault, grid-limits, grid-ok, grid-values, values-count}

@@ -1,4 +1,4 @@
-use Rattle.std.proofs.Common.{◌≡◌, arith, length}
+use Rattle.std.proofs.Common.{arith}
 use Rattle.std.proofs.lemmas.Result.{err_from_is_err_and}
 use Rattle.grid_text.proofs.ReadFacts.{weights-count, weights-fault, weights-missing, weights-ok, weights-values}
 use Rattle.grid_text.proofs.read.read_weights.Goals as goal

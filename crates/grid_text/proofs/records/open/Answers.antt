@@ -1,4 +1,3 @@
-use Rattle.std.proofs.Common.{◌∙◌, ap, sym, refl}
 use Rattle.csv.specs.Reading.{strip_bom}
 use Rattle.grid_text.proofs.RecordsLeft.{left-all}
 use Rattle.grid_text.proofs.records.open.Goals as goal

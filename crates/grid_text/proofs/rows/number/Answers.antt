@@ -1,4 +1,4 @@
-use Rattle.std.proofs.Common.{◌≡◌, ◌∙◌, sym, arith}
+use Rattle.std.proofs.Common.{◌∙◌, sym, arith}
 use Rattle.grid_text.specs.Numbers.{signed_of}
 use Rattle.grid_text.proofs.NumberFacts.{exact, within-ok}
 use Rattle.grid_text.proofs.FaultFacts.{field-err, field-ok}

@@ -1,10 +1,9 @@
-use Rattle.std.proofs.Common.{◌≡◌, ◌∙◌, sym, ap, arith, length, take}
+use Rattle.std.proofs.Common.{◌≡◌, ◌∙◌, arith, take}
 use Rattle.std.proofs.lemmas.List.{take_all}
 use Rattle.std.proofs.Common.{FitsSigned, w64, rules}
 use Rattle.std.proofs.lemmas.Int.{to_z-of_z}
 use Rattle.std.proofs.lemmas.Result.{err_from_is_err_and}
 use Rattle.csv.specs.Records.{fields_of}
-use Rattle.grid_text.specs.Faults.{field_faults, numbered}
 use Rattle.grid_text.proofs.ListFacts.{field-first, field-none-more, field-past, field-within, values-more}
 use Rattle.grid_text.proofs.rows.push_numbers.Goals as goal
 

@@ -1,11 +1,7 @@
-use Rattle.std.proofs.Common.{◌≡◌, ◌≢◌, ◌≤◌, ◌+◌, ◌∙◌, ◌++◌, ◌∷◌, [], ℕ, List, length, map, sym, ap, arith, Some, None, refl}
-use Rattle.std.specs.Prelude.{slice_get}
+use Rattle.std.proofs.Common.{◌+◌, ◌∙◌, ℕ, sym, ap, arith, refl}
 use Rattle.std.proofs.lemmas.Result.{MatchResult-weaker}
 use Rattle.csv.specs.Records.{fields_of}
-use Rattle.grid_text.specs.declared.fault.TextFault.{TextFault}
-use Rattle.grid_text.specs.declared.fault.TextFault.TheVariants.{NoMemory}
-use Rattle.grid_text.specs.Faults.{field_faults, limit_of, numbered, rows_faults, shape_faults}
-use Rattle.grid_text.specs.Reading.{AreKept}
+use Rattle.grid_text.specs.Faults.{shape_faults}
 use Rattle.grid_text.proofs.ListFacts.{first-none, on_ok_both}
 use Rattle.grid_text.proofs.FaultFacts.{shape-few, shape-same}
 use Rattle.grid_text.proofs.RowFacts.{cols-push, fields-first, push-fault, push-kept, shape-first}
@@ -31,9 +27,9 @@ returns-clause-ok c =
     let shape = rw c.len-count.ensures at (first-none (shape_faults c.args.kind c.cols_with-rows.result (c.args.rows.now.rows + 1) c.len-count.result) (sym c.shape_fault.ensures ∙ c.in_default.is)) in
     on_ok_both c.push_numbers.result
     (λ values faultless before h.
-        let cols = rw c.len-count.ensures at c.cols_with-rows.ensures ∙ cols-push c.args.kind before (fields_of c.args.record.now) c.args.rows.now h in
-        push-kept c.args.kind before (fields_of c.args.record.now) c.args.rows.now _ _ _ h cols (ap (λ (n : ℕ). n + 1) h.count) shape
-        (rw c.limit.ensures.value at faultless) refl refl values)
+    let cols = rw c.len-count.ensures at c.cols_with-rows.ensures ∙ cols-push c.args.kind before (fields_of c.args.record.now) c.args.rows.now h in
+    push-kept c.args.kind before (fields_of c.args.record.now) c.args.rows.now _ _ _ h cols (ap (λ (n : ℕ). n + 1) h.count) shape
+    (rw c.limit.ensures.value at faultless) refl refl values)
     c.push_numbers.ensures.ok c.push_numbers.ensures.faultless
 
 pub returns-clause-fault : goal.returns-clause-fault
@@ -41,6 +37,6 @@ returns-clause-fault c =
     let shape = rw c.len-count.ensures at (first-none (shape_faults c.args.kind c.cols_with-rows.result (c.args.rows.now.rows + 1) c.len-count.result) (sym c.shape_fault.ensures ∙ c.in_default.is)) in
     MatchResult-weaker c.push_numbers.result c.push_numbers.ensures.fault (λ x h. h)
     (λ fault first real before h.
-        let cols = rw c.len-count.ensures at c.cols_with-rows.ensures ∙ cols-push c.args.kind before (fields_of c.args.record.now) c.args.rows.now h in
-        push-fault c.args.kind before (fields_of c.args.record.now) _ _ fault h.faultless cols (ap (λ (n : ℕ). n + 1) h.count)
-        (fields-first c.args.kind _ _ (fields_of c.args.record.now) fault shape (rw c.limit.ensures.value at (first real))))
+    let cols = rw c.len-count.ensures at c.cols_with-rows.ensures ∙ cols-push c.args.kind before (fields_of c.args.record.now) c.args.rows.now h in
+    push-fault c.args.kind before (fields_of c.args.record.now) _ _ fault h.faultless cols (ap (λ (n : ℕ). n + 1) h.count)
+    (fields-first c.args.kind _ _ (fields_of c.args.record.now) fault shape (rw c.limit.ensures.value at (first real))))

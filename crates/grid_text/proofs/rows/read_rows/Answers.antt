@@ -1,10 +1,9 @@
-use Rattle.std.proofs.Common.{◌≡◌, ◌<◌, ◌∙◌, ◌++◌, ◌∷◌, [], ℕ, List, length, sym, ap, arith, refl, true, false, append_assoc}
+use Rattle.std.proofs.Common.{◌∙◌, ◌++◌, ◌∷◌, [], ℕ, List, length, sym, ap, arith, refl, append_assoc}
 use Rattle.std.specs.Prelude.{Ok}
-use Rattle.std.proofs.lemmas.List.{append-nil, length-append}
 use Rattle.std.proofs.lemmas.Result.{err_from_is_err_and}
 use Rattle.csv.specs.Records.{fields_of}
-use Rattle.grid_text.specs.Records.{left_of, records_of}
-use Rattle.grid_text.proofs.RowFacts.{kept-none, text-empty, text-front, text-rows}
+use Rattle.grid_text.specs.Records.{left_of}
+use Rattle.grid_text.proofs.RowFacts.{kept-none, text-front}
 use Rattle.grid_text.proofs.rows.read_rows.Goals as goal
 
 pub loop-rows-init : goal.loop-rows-init
@@ -20,8 +19,7 @@ pub loop-rows-preserved : goal.loop-rows-preserved
 loop-rows-preserved c =
     let e = c.in_ok-next.ensures.found (ap Ok c.if-branch.true) in
     let before = c.loop-rows.invariant.1.0 in
-    let all = c.loop-rows.invariant.1.1 ∙ (ap (λ (rest : List (List (List ℕ))). before ++ rest) e ∙ sym (append_assoc before (fields_of c.next.new.record ∷ []) (left_of c.next.new.reader))) in
-    (
+    let all = c.loop-rows.invariant.1.1 ∙ (ap (λ (rest : List (List (List ℕ))). before ++ rest) e ∙ sym (append_assoc before (fields_of c.next.new.record ∷ []) (left_of c.next.new.reader))) in (
       c.in_ok-next.ensures.reading (ap Ok c.if-branch.true),
       (before ++ fields_of c.next.new.record ∷ [], all, c.in_ok-push_row.ensures.ok before c.loop-rows.invariant.1.2),
     )

@@ -1,4 +1,4 @@
-use Rattle.std.proofs.Common.{◌≡◌, ◌+◌, ◌*◌, ◌<◌, ◌≤◌, ◌∙◌, ap, sym, arith, pos, ◌+ℤ◌, to_z, rules, FitsSigned, w64, get_or, take, ℤ}
+use Rattle.std.proofs.Common.{◌∙◌, ap, sym, arith, pos, ◌+ℤ◌, to_z, rules, FitsSigned, w64, get_or, take, ℤ}
 use mir.Syntax.{w128}
 use Rattle.std.proofs.lemmas.Int.{to_z-of_z}
 use Rattle.grid_text.specs.Printing.{check_sum, weighted}
@@ -13,7 +13,7 @@ loop-place-preserved c =
     let fits : FitsSigned w64 (get_or c.args.values.now c.loop-place.place (pos 0)) = search rules in
     record {
       sum = exact ∙ (ap (λ (s : ℤ). s +ℤ c.weighted-sum.result) c.loop-place.invariant.sum
-      ∙ (ap (λ (x : ℤ). check_sum (take c.loop-place.place c.args.values.now) +ℤ x) (c.weighted-sum.ensures.value ∙ ap (weighted c.loop-place.place) (to_z-of_z w64 _ fits))
-      ∙ sym (check-more c.args.values.now c.loop-place.place c.loop-place-test.true)));
+          ∙ (ap (λ (x : ℤ). check_sum (take c.loop-place.place c.args.values.now) +ℤ x) (c.weighted-sum.ensures.value ∙ ap (weighted c.loop-place.place) (to_z-of_z w64 _ fits))
+          ∙ sym (check-more c.args.values.now c.loop-place.place c.loop-place-test.true)));
       limits = rw exact more.0;
     }
