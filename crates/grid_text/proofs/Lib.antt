@@ -7,3 +7,6 @@ pub mod RowFacts
 pub mod ReadFacts
 pub mod PrintFacts
 pub mod MakeFacts
+pub mod PrintedNumbers
+pub mod PrintedRows
+pub mod PrintedGrid

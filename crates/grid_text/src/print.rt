@@ -1,6 +1,7 @@
 //! Grids, printed as texts.
 
-ghost use Rattle.std.specs.Prelude.{◌≡◌, ◌++◌, ◌<◌, IfOk, OnOk, length};
+ghost use Rattle.std.specs.Prelude.{◌≡◌, ◌++◌, ◌<◌, Ok, IfOk, OnOk, length};
+ghost use Rattle.grid_text.specs.Reading.{grid_of};
 ghost use Rattle.grid_text.specs.Printing.{comma_before, grid_text, row_text};
 
 use itoa::Buffer;
@@ -34,8 +35,10 @@ fn push_row(text: &mut Vec<u8>, row: &[i64]) -> Result<(), AllocError>
 /// The text of a grid: for each row its numbers with a comma between each two, and an LF.
 ///
 /// A number is printed with a `-` where it is negative and with no leading zeros. There are no quotes and no spaces.
+/// Read as a grid, the text gives the grid back.
 pub fn print_grid(alloc: Global, grid: &Grid) -> Result<Vec<u8>, AllocError>
-    ensures { IfOk result (λ text. text.items ≡ grid_text grid.now) }
+    ensures text { IfOk result (λ text. text.items ≡ grid_text grid.now) }
+    ensures back { IfOk result (λ text. grid_of text.items ≡ Ok grid.now) }
 {
     let least = 2 * grid.values().len();
     let mut text = Vec::with_capacity(alloc, least)?;

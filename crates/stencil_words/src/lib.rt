@@ -4,6 +4,8 @@
 mod file_name;
 mod options;
 mod read;
+#[cfg(test)]
+mod tests;
 mod words;
 
 pub use file_name::FileName;
