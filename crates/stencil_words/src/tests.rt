@@ -35,9 +35,9 @@ fn what_is_left_out_has_its_default(rt: HostRuntime) {
         rows: 2,
         cols: 3,
     };
-    match read.source {
+    match &read.source {
         Source::Make { size: made, weights } => {
-            assert_eq!(rt; made, size);
+            assert_eq!(rt; *made, size);
             assert!(rt; weights.is_none());
         }
         Source::Grid { .. } => assert!(rt; false, "a file"),
@@ -60,7 +60,7 @@ fn each_option_is_read_in_both_forms(rt: HostRuntime) {
         "--grid=-g=.csv",
     ];
     let read = reading(&rt, rt.alloc(), words.as_slice()).expect(&rt, "a reading");
-    match read.source {
+    match &read.source {
         Source::Grid { grid, weights } => {
             assert_eq!(rt; grid.as_str(), "-g=.csv");
             assert_eq!(rt; weights.as_str(), "w.csv");
@@ -75,11 +75,13 @@ fn each_option_is_read_in_both_forms(rt: HostRuntime) {
 fn a_made_grid_may_have_weights_of_its_own(rt: HostRuntime) {
     let words = ["stencil", "--weights=w.csv", "--make=2147483647,1000,1000", "--edge", "5"];
     let read = reading(&rt, rt.alloc(), words.as_slice()).expect(&rt, "a reading");
-    match read.source {
+    match &read.source {
         Source::Make { size, weights } => {
             assert_eq!(rt; (size.seed, size.rows, size.cols), (2_147_483_647, 1000, 1000));
-            let weights = weights.expect(&rt, "a file");
-            assert_eq!(rt; weights.as_str(), "w.csv");
+            match weights {
+                Some(name) => assert_eq!(rt; name.as_str(), "w.csv"),
+                None => assert!(rt; false, "no file"),
+            }
         }
         Source::Grid { .. } => assert!(rt; false, "a file"),
     }
