@@ -92,9 +92,9 @@ size-limits : (seed rows cols : Text) → IfSome (size_in seed rows cols) IsSize
 unfolding size_in
 size-limits seed rows cols =
     bind-some (number_in 0 2147483647 seed) _ IsSize (λ s es.
-        bind-some (number_in 1 4096 rows) _ IsSize (λ r er.
-            bind-some (number_in 1 4096 cols) _ IsSize (λ c ec.
-                small s r c (number-range 0 2147483647 s seed es) (number-range 1 4096 r rows er) (number-range 1 4096 c cols ec) (nat_le (r * c) 1000000) refl)))
+    bind-some (number_in 1 4096 rows) _ IsSize (λ r er.
+    bind-some (number_in 1 4096 cols) _ IsSize (λ c ec.
+    small s r c (number-range 0 2147483647 s seed es) (number-range 1 4096 r rows er) (number-range 1 4096 c cols ec) (nat_le (r * c) 1000000) refl)))
   where
     small : (s r c : ℕ) → (0 ≤ s) × (s ≤ 2147483647) → (1 ≤ r) × (r ≤ 4096) → (1 ≤ c) × (c ≤ 4096) → (b : Bool) → nat_le (r * c) 1000000 ≡ b
         → IfSome (when {A = Size} b record { seed = s; rows = r; cols = c }) IsSize
@@ -134,23 +134,23 @@ with-limits : (options : List Pair) (source : Source) → IsSource source → If
 unfolding with_source
 with-limits options source h =
     bind-some (or_default (number_in 0 10000) 1 (value (codes "steps") options)) _ IsRead (λ steps es.
-        bind-some (or_default (number_in 1 1000000) 1 (value (codes "div") options)) _ IsRead (λ div ed.
-            bind-some (or_default (signed_in 1000000000000) (pos 0) (value (codes "edge") options)) _ IsRead (λ edge ee.
-                bind-some (or_default around_of around.Fixed (value (codes "around") options)) _ IsRead (λ side ea.
-                    record {
-                      source_limits = h;
-                      steps_limit = (default-range 0 10000 1 steps (value (codes "steps") options) (omega arith) (omega arith) es).1;
-                      div_limits = default-range 1 1000000 1 div (value (codes "div") options) (omega arith) (omega arith) ed;
-                      edge_limits = edge-limit edge (value (codes "edge") options) ee;
-                    }))))
+    bind-some (or_default (number_in 1 1000000) 1 (value (codes "div") options)) _ IsRead (λ div ed.
+    bind-some (or_default (signed_in 1000000000000) (pos 0) (value (codes "edge") options)) _ IsRead (λ edge ee.
+    bind-some (or_default around_of around.Fixed (value (codes "around") options)) _ IsRead (λ side ea.
+    record {
+      source_limits = h;
+      steps_limit = (default-range 0 10000 1 steps (value (codes "steps") options) (omega arith) (omega arith) es).1;
+      div_limits = default-range 1 1000000 1 div (value (codes "div") options) (omega arith) (omega arith) ed;
+      edge_limits = edge-limit edge (value (codes "edge") options) ee;
+    }))))
 
 -- the limits of a reading
 pub reading-limits : (options : List Pair) → IfSome (reading_of_options options) IsRead
 unfolding reading_of_options source_of
 reading-limits options =
     bind-some (when (are_sound options) options) _ IsRead (λ sound e.
-        bind-some (source_of sound) _ IsRead (λ source f.
-            with-limits sound source (at-some (source_of sound) IsSource source (one-limits (value (codes "grid") sound) (value (codes "make") sound) (value (codes "weights") sound)) f)))
+    bind-some (source_of sound) _ IsRead (λ source f.
+    with-limits sound source (at-some (source_of sound) IsSource source (one-limits (value (codes "grid") sound) (value (codes "make") sound) (value (codes "weights") sound)) f)))
 
 pub is-false : (b : Bool) → true ≡ not b → b ≡ false
 is-false true e = cc e

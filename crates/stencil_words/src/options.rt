@@ -87,10 +87,7 @@ fn first_option<'a>(word: &'a str, after: &'a [String]) -> Option<(Given<'a>, &'
 }
 
 /// The options that words give, each `--NAME=VALUE` in one word or `--NAME` and the value in two.
-pub(crate) fn options(
-    alloc: Global,
-    words: &[String],
-) -> Result<Option<Vec<Given<'_>>>, AllocError>
+pub(crate) fn options(alloc: Global, words: &[String]) -> Result<Option<Vec<Given<'_>>>, AllocError>
     ensures { IfOk result (λ options.
         option_map (λ v. pairs_of v.items) options ≡ options_of (texts words.now)) }
 {

@@ -36,7 +36,10 @@ fn what_is_left_out_has_its_default(rt: HostRuntime) {
         cols: 3,
     };
     match &read.source {
-        Source::Make { size: made, weights } => {
+        Source::Make {
+            size: made,
+            weights,
+        } => {
             assert_eq!(rt; *made, size);
             assert!(rt; weights.is_none());
         }
@@ -67,17 +70,29 @@ fn each_option_is_read_in_both_forms(rt: HostRuntime) {
         }
         Source::Make { .. } => assert!(rt; false, "a generator"),
     }
-    assert_eq!(rt; (read.steps, read.div, read.edge), (10_000, 1_000_000, -1_000_000_000_000));
+    assert_eq!(rt;
+        (read.steps, read.div, read.edge),
+        (10_000, 1_000_000, -1_000_000_000_000)
+    );
     assert_eq!(rt; read.around, Around::Wrap);
 }
 
 #[test]
 fn a_made_grid_may_have_weights_of_its_own(rt: HostRuntime) {
-    let words = ["stencil", "--weights=w.csv", "--make=2147483647,1000,1000", "--edge", "5"];
+    let words = [
+        "stencil",
+        "--weights=w.csv",
+        "--make=2147483647,1000,1000",
+        "--edge",
+        "5",
+    ];
     let read = reading(&rt, rt.alloc(), words.as_slice()).expect(&rt, "a reading");
     match &read.source {
         Source::Make { size, weights } => {
-            assert_eq!(rt; (size.seed, size.rows, size.cols), (2_147_483_647, 1000, 1000));
+            assert_eq!(rt;
+                (size.seed, size.rows, size.cols),
+                (2_147_483_647, 1000, 1000)
+            );
             match weights {
                 Some(name) => assert_eq!(rt; name.as_str(), "w.csv"),
                 None => assert!(rt; false, "no file"),

@@ -18,8 +18,7 @@ returns-in_err-option c =
 
 pub returns : goal.returns
 returns c =
-    let words = c.in_ok-next.ensures.cases in
-    (
+    let words = c.in_ok-next.ensures.cases in (
       omega (arith, words.1),
       rw words.0 (first-paired c.args.word.now _ (texts c.in_ok-next.rest.now) (pair_of c.in_ok-option.option) (sym c.in_default.ensures) (sym (rw c.as_str.ensures.value at c.in_ok-option.ensures))),
     )
