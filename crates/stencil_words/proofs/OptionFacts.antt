@@ -1,14 +1,13 @@
 -- What the parts of a word say of it.
-use Rattle.std.proofs.Common.{◌≡◌, ◌≢◌, ℕ, zero, suc, ◌+◌, ◌<◌, ◌≤◌, Bool, true, false, List, [], ◌∷◌, ◌++◌, length, drop, map, Option, Some, None, refl, sym, ap, ◌∙◌, arith, append_assoc}
-use Rattle.std.specs.Prelude.{MatchOption, option_copied, option_map, ◌==◌, nat_lt, bytes_eq, not, ◌&&◌}
+use Rattle.std.proofs.Common.{◌≡◌, ◌≢◌, ℕ, ◌<◌, Bool, true, false, List, [], ◌∷◌, ◌++◌, length, Option, Some, None, refl, sym, ap, ◌∙◌, arith, append_assoc}
+use Rattle.std.specs.Prelude.{MatchOption, option_copied, option_map, ◌==◌, not, ◌&&◌}
 use Rattle.std.specs.Prelude.{String}
 use Rattle.std.specs.declared.alloc.Global.{Global}
 use Rattle.std.specs.Borrow.{Bor}
 use Rattle.std.specs.List.{after_first, before_first, position_or_len}
 use Rattle.std.proofs.lemmas.List.{append-nil}
 use Rattle.std.proofs.lemmas.Bool.Decides.{nat_tests}
-use Rattle.stencil_words.specs.declared.options.Given.{Given}
-use Rattle.stencil_words.specs.Options.{Pair, Text, are_sound, before, divided, has, has_equals, is_empty, is_equals, joined, name_part, options_of, or_else, pair_of, paired, pairs_of, texts, undashed, value, when}
+use Rattle.stencil_words.specs.Options.{Pair, Text, before, divided, has_equals, is_empty, is_equals, joined, options_of, paired, texts, undashed, value, when}
 
 -- a word with and without a `-` at its front
 pub undashed-is : (word : Text) (r : Option (Bor Text)) → MatchOption r ((rest : Text) → word ≢ 45 ∷ rest) (λ x. word ≡ 45 ∷ x.now)

@@ -1,19 +1,15 @@
 -- What a reading says, and the limits that it keeps.
-use Rattle.std.proofs.Common.{◌≡◌, ℕ, ◌+◌, ◌*◌, ◌<◌, ◌≤◌, ◌^◌, Bool, true, false, ℤ, pos, unsigned_abs, List, [], ◌∷◌, length, map, Option, Some, None, Result, Ok, Err, refl, sym, ap, ◌∙◌, arith}
+use Rattle.std.proofs.Common.{◌≡◌, ℕ, ◌*◌, ◌≤◌, Bool, true, false, ℤ, pos, unsigned_abs, List, [], ◌∷◌, length, Option, Some, None, Ok, Err, refl, arith}
 use Rattle.std.specs.Prelude.{IfSome, String, bytes_eq, codes, string_bytes, option_and_then, nat_le, not, ◌==◌, if◌then◌else◌}
 use Rattle.std.specs.declared.alloc.Global.{Global}
 use Rattle.std.specs.List.{slice_split}
 use Rattle.std.proofs.lemmas.Bool.Decides.{nat_tests}
-use Rattle.stencil_def.specs.Limits.{IsValue, IsWithin}
-use Rattle.stencil_def.specs.declared.rule.Around.{Around}
+use Rattle.stencil_def.specs.Limits.{IsValue}
 use Rattle.stencil_def.specs.declared.rule.Around.TheVariants as around
 use Rattle.grid_text.specs.Numbers.{signed_of, unsigned_of, within}
-use Rattle.grid_text.specs.declared.number.NumberFault.{NumberFault}
 use Rattle.grid_text.specs.declared.number.NumberFault.TheVariants as fault
 use Rattle.stencil_words.specs.declared.words.Size.{Size}
 use Rattle.stencil_words.specs.declared.words.Source.{Source}
-use Rattle.stencil_words.specs.declared.words.Source.TheVariants.{Grid, Make}
-use Rattle.stencil_words.specs.declared.words.StencilWords.{StencilWords}
 use Rattle.stencil_words.specs.Limits.{IsRead, IsSize, IsSource}
 use Rattle.stencil_words.specs.Options.{◌>>=◌, Pair, Text, are_sound, options_of, texts, value, when}
 use Rattle.stencil_words.specs.Words.{around_of, grid_source, is_between, made_source, number_in, one_source, or_default, reading_of, reading_of_options, signed_in, size_in, size_of, size_of_parts, source_of, stencil_reading, value_of_result, with_source}

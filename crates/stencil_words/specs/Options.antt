@@ -2,7 +2,7 @@
 use Rattle.std.specs.Prelude.{◌≡◌, ℕ, ◌==◌, Bool, true, false, ◌&&◌, ◌||◌, not, nat_lt, ◌≤◌, bytes_eq, codes, if◌then◌else◌, List, [], ◌∷◌, length, map, find, Option, Some, None, option_map, option_and_then, String, string_bytes}
 use Rattle.std.specs.Borrow.{Bor}
 use Rattle.std.specs.declared.alloc.Global.{Global}
-use Rattle.std.specs.List.{after_first, before_first, list_all, list_any, position_or_len}
+use Rattle.std.specs.List.{after_first, before_first, list_any, position_or_len}
 use Rattle.stencil_words.specs.declared.options.Given.{Given}
 
 -- the second step, where the first gives a value

@@ -1,5 +1,4 @@
-use Rattle.std.proofs.Common.{◌≡◌, ◌∷◌, sym, ap, arith, ◌∙◌, refl}
-use Rattle.std.specs.Prelude.{string_bytes}
+use Rattle.std.proofs.Common.{sym, arith}
 use Rattle.stencil_words.specs.Options.{pair_of, texts}
 use Rattle.stencil_words.proofs.OptionFacts.{first-alone, first-joined, first-none, first-paired, texts-none}
 use Rattle.stencil_words.proofs.options.first_option.Goals as goal

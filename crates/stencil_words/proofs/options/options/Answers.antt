@@ -1,6 +1,5 @@
-use Rattle.std.proofs.Common.{◌≡◌, ◌∙◌, ap, refl, sym, Some}
 use Rattle.stencil_words.specs.Options.{options_of, pairs_of, texts}
-use Rattle.stencil_words.proofs.OptionFacts.{all-done, texts-none}
+use Rattle.stencil_words.proofs.OptionFacts.{all-done}
 use Rattle.stencil_words.proofs.options.options.Goals as goal
 
 pub returns : goal.returns

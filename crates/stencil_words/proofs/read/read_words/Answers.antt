@@ -1,8 +1,8 @@
-use Rattle.std.proofs.Common.{◌≡◌, ◌∙◌, sym, ap, refl, Some, None, true, false}
-use Rattle.std.specs.Prelude.{IfSome, bytes_eq, codes, option_map}
+use Rattle.std.proofs.Common.{◌≡◌, ◌∙◌, sym, ap, true, false}
+use Rattle.std.specs.Prelude.{IfSome, bytes_eq, codes}
 use Rattle.std.proofs.lemmas.Result.{IfOk-weaker}
 use Rattle.stencil_words.specs.Limits.{IsRead}
-use Rattle.stencil_words.specs.Options.{options_of, pairs_of, texts}
+use Rattle.stencil_words.specs.Options.{pairs_of, texts}
 use Rattle.stencil_words.specs.Words.{reading_of_options, stencil_reading}
 use Rattle.stencil_words.proofs.WordFacts.{bad-words, good-words, is-false, is-true, no-words, other-words, reading-limits}
 use Rattle.stencil_words.proofs.read.read_words.Goals as goal
