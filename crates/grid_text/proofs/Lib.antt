@@ -1,0 +1,12 @@
+pub mod RecordsLeft
+pub mod Spaces
+pub mod NumberFacts
+pub mod ListFacts
+pub mod FaultFacts
+pub mod RowFacts
+pub mod ReadFacts
+pub mod PrintFacts
+pub mod MakeFacts
+pub mod PrintedNumbers
+pub mod PrintedRows
+pub mod PrintedGrid
