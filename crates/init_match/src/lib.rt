@@ -1,0 +1,6 @@
+//! Which send initialisation is matched with which receive initialisation (MPI 4.0, 4.2.1).
+#![tactic(auto)]
+
+mod keys;
+
+pub use keys::{Call, Key, Side};
