@@ -1,1 +1,3 @@
 pub mod KeyFacts
+pub mod Placing
+pub mod LedgerFacts

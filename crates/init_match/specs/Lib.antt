@@ -1,3 +1,5 @@
 pub mod Calls
 pub mod Slots
 pub mod KeyLists
+pub mod Matching
+pub mod Ledger

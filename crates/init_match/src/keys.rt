@@ -17,6 +17,20 @@ pub enum Side {
     Recv,
 }
 
+impl Side {
+    ghost use Rattle.init_match.specs.Calls.{facing};
+
+    /// The other side.
+    pub(crate) fn facing(self) -> Side
+        ensures { result ≡ facing self }
+    {
+        match self {
+            Side::Send => Side::Recv,
+            Side::Recv => Side::Send,
+        }
+    }
+}
+
 /// What both initialisations of a pair have in common: the communicator, the ranks of the sender and the receiver,
 /// and the tag (MPI 4.0, 4.2.1).
 #[derive(Clone, Copy, Debug, PartialEq, Eq, PartialOrd, Ord)]

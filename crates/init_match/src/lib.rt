@@ -2,5 +2,6 @@
 #![tactic(auto)]
 
 mod keys;
+mod ledger;
 
 pub use keys::{Call, Key, Side};
