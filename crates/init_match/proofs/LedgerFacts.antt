@@ -50,8 +50,8 @@ pub record IsGrown (l new : Inside) (c : Call) : Type 0 where
 pub grown : (l new : Inside) (c : Call) → IsLedger l → IsGrown l new c → IsLedger new
 grown l new c s g = record {
   turns = g.turns ∙ ap (λ ts. ts ++ length (lists_of l.keys c.side c.key) ∷ []) s.turns
-    ∙ ap (λ n. turns_after [] l.calls.items ++ n ∷ []) (turn_is l.keys l.calls.items c _ s.slots refl)
-    ∙ sym (turns_more [] l.calls.items c) ∙ ap (turns_after []) (sym g.calls);
+      ∙ ap (λ n. turns_after [] l.calls.items ++ n ∷ []) (turn_is l.keys l.calls.items c _ s.slots refl)
+      ∙ sym (turns_more [] l.calls.items c) ∙ ap (turns_after []) (sym g.calls);
   keys = g.keys;
   slots = λ side key. g.slots side key ∙ ap (appended (is_of side key c) (length l.calls.items)) (s.slots side key) ∙ sym (slots_of-more side key l.calls.items c) ∙ ap (slots_of side key) (sym g.calls);
 }

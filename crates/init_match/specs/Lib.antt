@@ -3,3 +3,5 @@ pub mod Slots
 pub mod KeyLists
 pub mod Matching
 pub mod Ledger
+pub mod World
+pub mod Sound

@@ -10,7 +10,7 @@ use std::marker::Model;
 
 /// Which side an initialisation is of.
 #[derive(Clone, Copy, Debug, PartialEq, Eq)]
-pub enum Side {
+pub(crate) enum Side {
     /// The sender's (`MPI_Psend_init`).
     Send,
     /// The receiver's (`MPI_Precv_init`).
@@ -34,20 +34,20 @@ impl Side {
 /// What both initialisations of a pair have in common: the communicator, the ranks of the sender and the receiver,
 /// and the tag (MPI 4.0, 4.2.1).
 #[derive(Clone, Copy, Debug, PartialEq, Eq, PartialOrd, Ord)]
-pub struct Key {
-    pub comm: u32,
-    pub from: u32,
-    pub to: u32,
-    pub tag: u32,
+pub(crate) struct Key {
+    pub(crate) comm: u32,
+    pub(crate) from: u32,
+    pub(crate) to: u32,
+    pub(crate) tag: u32,
 }
 
 /// An initialisation of one side: how many partitions it has, and how many bytes a partition has.
 #[derive(Clone, Copy, Debug, PartialEq, Eq)]
-pub struct Call {
-    pub side: Side,
-    pub key: Key,
-    pub parts: u32,
-    pub bytes: u32,
+pub(crate) struct Call {
+    pub(crate) side: Side,
+    pub(crate) key: Key,
+    pub(crate) parts: u32,
+    pub(crate) bytes: u32,
 }
 
 /// The slots of the sends and of the receives of one key, in order.

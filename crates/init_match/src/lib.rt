@@ -1,7 +1,11 @@
 //! Which send initialisation is matched with which receive initialisation (MPI 4.0, 4.2.1).
 #![tactic(auto)]
 
+mod answers;
 mod keys;
 mod ledger;
+mod numbers;
+mod world;
 
-pub use keys::{Call, Key, Side};
+pub use answers::{InitFault, Matched, WorldFault};
+pub use world::World;
