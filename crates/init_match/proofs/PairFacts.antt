@@ -89,10 +89,10 @@ world_grown w new c s f g =
       few = g.few;
       many = omega arith;
       pairs = g.pairs ∙ ap (λ ps. ps ++ option_to_list (option_map (matched_as w.grain w.depth) (completed_by w.ledger c))) s.pairs
-        ∙ ap (λ ps. map (matched_as w.grain w.depth) (pairs_of w.ledger) ++ ps) (map-option (matched_as w.grain w.depth) (completed_by w.ledger c))
-        ∙ sym (map-append (matched_as w.grain w.depth) (pairs_of w.ledger) (option_to_list (completed_by w.ledger c)))
-        ∙ ap (map (matched_as w.grain w.depth)) (sym (pairs_more w.ledger c) ∙ ap pairs_of (sym g.ledger))
-        ∙ rw (g.grain, g.depth) refl;
+          ∙ ap (λ ps. map (matched_as w.grain w.depth) (pairs_of w.ledger) ++ ps) (map-option (matched_as w.grain w.depth) (completed_by w.ledger c))
+          ∙ sym (map-append (matched_as w.grain w.depth) (pairs_of w.ledger) (option_to_list (completed_by w.ledger c)))
+          ∙ ap (map (matched_as w.grain w.depth)) (sym (pairs_more w.ledger c) ∙ ap pairs_of (sym g.ledger))
+          ∙ rw (g.grain, g.depth) refl;
     }
 
 -- the pair that a call completes, where the sizes are the same

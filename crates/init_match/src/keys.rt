@@ -50,6 +50,35 @@ pub(crate) struct Call {
     pub(crate) bytes: u32,
 }
 
+impl Call {
+    ghost use Rattle.init_match.specs.World.{call_of};
+
+    pub(crate) fn new(
+        side: Side,
+        from: u32,
+        to: u32,
+        tag: u32,
+        comm: u32,
+        parts: u32,
+        bytes: u32,
+    ) -> Call
+        ensures { result ≡ call_of side from to tag comm parts bytes }
+    {
+        let key = Key {
+            comm,
+            from,
+            to,
+            tag,
+        };
+        Call {
+            side,
+            key,
+            parts,
+            bytes,
+        }
+    }
+}
+
 /// The slots of the sends and of the receives of one key, in order.
 #[derive(Drop)]
 pub(crate) struct KeySlots {

@@ -5,6 +5,8 @@ mod answers;
 mod keys;
 mod ledger;
 mod numbers;
+#[cfg(test)]
+mod tests;
 mod world;
 
 pub use answers::{InitFault, Matched, WorldFault};

@@ -7,7 +7,7 @@ ghost use Rattle.init_match.specs.Sound.{IsFit};
 ghost use Rattle.init_match.specs.World.{shape_of};
 
 use crate::answers::{InitFault, Matched, WorldFault};
-use crate::keys::{Call, Key, Side};
+use crate::keys::{Call, Side};
 use crate::ledger::Ledger;
 use crate::numbers::{check_numbers, is_within};
 use part_geometry::Geometry;
@@ -112,18 +112,7 @@ impl World {
         ensures answer { result ≢ Err InitFault.NoMemory → result ≡ init_answer self.old (call_of Side.Send from to tag comm parts bytes) }
         ensures world { self.new ≡ after_init self.old (call_of Side.Send from to tag comm parts bytes) result }
     {
-        let key = Key {
-            comm,
-            from,
-            to,
-            tag,
-        };
-        self.init(Call {
-            side: Side::Send,
-            key,
-            parts,
-            bytes,
-        })
+        self.init(Call::new(Side::Send, from, to, tag, comm, parts, bytes))
     }
 
     /// Initialises a receive of `parts` partitions of `bytes` bytes at rank `to` from rank `from` (`MPI_Precv_init`,
@@ -140,18 +129,7 @@ impl World {
         ensures answer { result ≢ Err InitFault.NoMemory → result ≡ init_answer self.old (call_of Side.Recv from to tag comm parts bytes) }
         ensures world { self.new ≡ after_init self.old (call_of Side.Recv from to tag comm parts bytes) result }
     {
-        let key = Key {
-            comm,
-            from,
-            to,
-            tag,
-        };
-        self.init(Call {
-            side: Side::Recv,
-            key,
-            parts,
-            bytes,
-        })
+        self.init(Call::new(Side::Recv, from, to, tag, comm, parts, bytes))
     }
 
     /// Either of them.

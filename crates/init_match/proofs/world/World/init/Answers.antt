@@ -21,7 +21,11 @@ invariant_of-self-in-Some c =
     (completed_is c.args.self.now c.args.call c.in_ok-completed.completed c.in_ok-completed.ensures) in
     world_grown c.self.inside _ c.args.call c.self.invariant fit
     (record {
-      grain = refl; depth = refl; ledger = c.in_ok-push.ensures.ok; sum = ap (λ n. c.self.inside.sum + n) f; few = omega arith;
+      grain = refl;
+      depth = refl;
+      ledger = c.in_ok-push.ensures.ok;
+      sum = ap (λ n. c.self.inside.sum + n) f;
+      few = omega arith;
       pairs = c.push_reserved.ensures.items ∙ rw c.in_ok-reserve.ensures.items (ap (λ o. c.self.inside.pairs.items ++ option_to_list o) (sym c.in-Some.is ∙ pair));
     })
 
@@ -33,6 +37,10 @@ invariant_of-self-in_default c =
     (completed_is c.args.self.now c.args.call c.in_ok-completed.completed c.in_ok-completed.ensures) in
     world_grown c.self.inside _ c.args.call c.self.invariant fit
     (record {
-      grain = refl; depth = refl; ledger = c.in_ok-push.ensures.ok; sum = ap (λ n. c.self.inside.sum + n) f; few = omega arith;
+      grain = refl;
+      depth = refl;
+      ledger = c.in_ok-push.ensures.ok;
+      sum = ap (λ n. c.self.inside.sum + n) f;
+      few = omega arith;
       pairs = c.in_ok-reserve.ensures.items ∙ append_none c.self.inside.pairs.items ∙ ap (λ o. c.self.inside.pairs.items ++ option_to_list o) (sym (none_is c.in_ok-completed.completed c.in_default.not-Some) ∙ pair);
     })
