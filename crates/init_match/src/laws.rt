@@ -1,0 +1,10 @@
+//! What holds of all lists of calls.
+
+ghost use Rattle.init_match.specs.Matching.{AreThePairs};
+
+/// What holds of all lists of accepted initialisations, for proofs; the body is empty. The pairs of a world are those
+/// of the k-th send and the k-th receive of one key, all of them, in the order of their later calls.
+#[tactic(auto, using(crate::proofs::PairLaws::the_pairs))]
+pub fn match_laws()
+    ensures pairs { AreThePairs }
+{}
