@@ -5,3 +5,4 @@ pub mod PairFacts
 pub mod Pairing
 pub mod PairLaws
 pub mod MergeFacts
+pub mod MergeLaws
