@@ -6,3 +6,4 @@ pub mod Pairing
 pub mod PairLaws
 pub mod MergeFacts
 pub mod MergeLaws
+pub mod PartnerLaws

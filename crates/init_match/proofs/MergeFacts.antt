@@ -1,5 +1,5 @@
 -- Merges: the calls of a side and a key come in the order of their rank's list, and sums are the same.
-use Rattle.std.proofs.Common.{◌≡◌, ◌≢◌, ℕ, zero, suc, ◌+◌, ◌-◌, ◌<◌, ◌≤◌, Bool, true, false, cond, Some, None, Option, List, [], ◌∷◌, ◌++◌, length, map, get_or, set, refl, ap, sym, subst, ◌∙◌, arith, inl, inr}
+use Rattle.std.proofs.Common.{◌≡◌, ℕ, zero, suc, ◌+◌, ◌-◌, ◌≤◌, true, false, Some, None, Option, List, [], ◌∷◌, map, get_or, set, refl, ap, sym, subst, ◌∙◌, arith, inl, inr}
 use Rattle.std.specs.List.{slice_get, filter, enumerate_from, sum_by}
 use Rattle.std.specs.Option.{option_map}
 use Rattle.std.proofs.lemmas.Bool.{cases_Bool, cases_eq}
@@ -7,7 +7,6 @@ use Rattle.std.proofs.lemmas.List.{get_or-set_same, get_or-set_other}
 use Rattle.std.proofs.lemmas.List.Sums.{sum_by-cons, sum_by-set}
 use Rattle.std.proofs.lemmas.Option.{slice_get-map, slice_get_within, get_or_from_slice_get}
 use Rattle.init_match.specs.declared.keys.Side.{Side}
-use Rattle.init_match.specs.declared.keys.Side.TheVariants.{Send, Recv}
 use Rattle.init_match.specs.declared.keys.Key.{Key}
 use Rattle.init_match.specs.declared.keys.Call.{Call}
 use Rattle.init_match.specs.Calls.{is_of, of_key}
@@ -107,6 +106,7 @@ named_there n s q (c ∷ xs) k e is =
   where
     later : (n + 1 ≤ e.0) × (slice_get xs (e.0 - (n + 1)) ≡ Some e.1) → (n ≤ e.0) × (slice_get (c ∷ xs) (e.0 - n) ≡ Some e.1)
     later h = let low = h.0 in (omega arith, ap (slice_get (c ∷ xs)) (let z : e.0 - n ≡ suc (e.0 - (n + 1)) = omega arith in z) ∙ h.1)
+
     first : (k : ℕ) → ((j : ℕ) → slice_get (named_from (n + 1) s q xs) j ≡ Some e → (n + 1 ≤ e.0) × (slice_get xs (e.0 - (n + 1)) ≡ Some e.1))
         → slice_get ((n, c) ∷ named_from (n + 1) s q xs) k ≡ Some e → (n ≤ e.0) × (slice_get (c ∷ xs) (e.0 - n) ≡ Some e.1)
     first zero rest is =
@@ -131,7 +131,7 @@ pub slot_named : (s : Side) (q : Key) (xs : List Named) (k : ℕ) (e : ℕ × Ca
 unfolding of_key
 slot_named s q xs k e is =
     let f = some_of (λ (e : ℕ × Named). (e.0, e.1.call)) (slice_get (named_from 0 s q xs) k) e
-      (sym (slice_get-map (λ (e : ℕ × Named). (e.0, e.1.call)) (named_from 0 s q xs) k) ∙ ap (λ es. slice_get es k) (sym (slots_named 0 s q xs)) ∙ is) in
+    (sym (slice_get-map (λ (e : ℕ × Named). (e.0, e.1.call)) (named_from 0 s q xs) k) ∙ ap (λ es. slice_get es k) (sym (slots_named 0 s q xs)) ∙ is) in
     let in_group = ap (λ es. slice_get es k) (group_named 0 s q xs) ∙ slice_get-map (λ (e : ℕ × Named). e.1) (named_from 0 s q xs) k ∙ ap (option_map (λ (e : ℕ × Named). e.1)) f.1 in
     (f.0.1, in_group, record { there = ap (slice_get xs) (sym (ap (λ (p : ℕ × Call). p.0) f.2)) ∙ named_is s q xs k f.0 f.1; call = ap (λ (p : ℕ × Call). p.1) f.2 })
 
@@ -140,6 +140,6 @@ pub named_slot : (s : Side) (q : Key) (xs : List Named) (k : ℕ) (n : Named) �
 unfolding of_key
 named_slot s q xs k n is =
     let f = some_of (λ (e : ℕ × Named). e.1) (slice_get (named_from 0 s q xs) k) n
-      (sym (slice_get-map (λ (e : ℕ × Named). e.1) (named_from 0 s q xs) k) ∙ ap (λ es. slice_get es k) (sym (group_named 0 s q xs)) ∙ is) in
+    (sym (slice_get-map (λ (e : ℕ × Named). e.1) (named_from 0 s q xs) k) ∙ ap (λ es. slice_get es k) (sym (group_named 0 s q xs)) ∙ is) in
     let slot = ap (λ es. slice_get es k) (slots_named 0 s q xs) ∙ slice_get-map (λ (e : ℕ × Named). (e.0, e.1.call)) (named_from 0 s q xs) k ∙ ap (option_map (λ (e : ℕ × Named). (e.0, e.1.call))) f.1 in
     ((f.0.0, f.0.1.call), slot, record { there = named_is s q xs k f.0 f.1 ∙ ap Some f.2; call = ap (λ (m : Named). m.call) (sym f.2) })

@@ -1,8 +1,8 @@
 -- Where one merge of the ranks' lists is accepted, each merge is, and the same calls are paired.
-use Rattle.std.proofs.Common.{◌≡◌, ◌⊎◌, ℕ, ◌+◌, ◌<◌, ◌≤◌, ◌==◌, nat_lt, Bool, true, false, cond, not, Some, None, Option, is_some, Ok, Err, Result, IsOk, is_ok, List, [], ◌∷◌, ◌++◌, length, map, refl, ap, sym, subst, ◌∙◌, arith, inl, inr, append_assoc}
+use Rattle.std.proofs.Common.{◌≡◌, ℕ, ◌+◌, ◌≤◌, ◌==◌, nat_lt, Bool, true, false, cond, Some, None, Option, is_some, Ok, Err, Result, IsOk, is_ok, List, [], ◌∷◌, ◌++◌, length, map, refl, ap, sym, subst, ◌∙◌, arith, inl, inr, append_assoc}
 use Rattle.std.specs.List.{slice_get, sum_by}
 use Rattle.std.specs.Option.{option_map_or}
-use Rattle.std.proofs.lemmas.Bool.{cases_Bool, cases_lt, eqb-true, eq-eqb, lt-ltb, le-ltb, ltb-false, false≢true}
+use Rattle.std.proofs.lemmas.Bool.{cases_Bool, eqb-true, eq-eqb, le-ltb, ltb-false, false≢true}
 use Rattle.std.proofs.lemmas.List.Sums.{sum_by-cons, sum_by_push}
 use Rattle.init_match.specs.declared.answers.InitFault.{InitFault}
 use Rattle.init_match.specs.declared.answers.InitFault.TheVariants.{SizeMismatch, WorldFull}
@@ -13,10 +13,10 @@ use Rattle.init_match.specs.declared.keys.Call.{Call}
 use Rattle.init_match.specs.Calls.{total, of_key}
 use Rattle.init_match.specs.Matching.{Pair, ArePaired, completed_by}
 use Rattle.init_match.specs.World.{Calls, number_fault, size_fault, volume, init_answer, after_init}
-use Rattle.init_match.specs.Merges.{Named, owner, AreOwn, IsMerge, AreAccepted, AreMatched, MergesAgree, DoMergesAgree}
+use Rattle.init_match.specs.Merges.{Named, IsMerge, AreAccepted, AreMatched, DoMergesAgree}
 use Rattle.init_match.proofs.PairFacts.{append_none}
 use Rattle.init_match.proofs.Pairing.{paired_stays, completed_paired, paired_cases}
-use Rattle.init_match.proofs.MergeFacts.{group, merge_group, merge_sum, IsNamed, slot_named, named_slot}
+use Rattle.init_match.proofs.MergeFacts.{group, merge_group, merge_sum, slot_named, named_slot}
 
 -- 1 where a call has a fault in its numbers
 abbrev faulty : ℕ → Call → ℕ
@@ -55,7 +55,7 @@ answer_is w c = refl
 taken : (w : Calls) (c : Call) → IsOk (init_answer w c) → IsTaken w c
 taken w c ok =
     let h = taken_by (number_fault w.ranks c) (size_fault (completed_by w.calls c)) (nat_lt 67108864 (volume w.calls + total c)) (volume w.calls + total c) (length w.calls)
-      (subst (λ a. IsOk a) (answer_is w c) ok) in
+    (subst (λ a. IsOk a) (answer_is w c) ok) in
     record { number = h.0; size = h.1; room = ltb-false 67108864 (volume w.calls + total c) h.2 }
 
 gives : (f g : Option InitFault) (full : Bool) (sum slot : ℕ) → f ≡ None → g ≡ None → full ≡ false → answer_of f g full sum slot ≡ Ok slot

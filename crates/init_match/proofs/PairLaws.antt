@@ -1,5 +1,5 @@
 -- The list of pairs has all pairs, in the order of their later calls.
-use Rattle.std.proofs.Common.{◌≡◌, ◌⊎◌, ℕ, zero, suc, ◌+◌, ◌<◌, ◌≤◌, max, Some, None, Option, List, [], ◌∷◌, ◌++◌, length, refl, ap, sym, subst, ◌∙◌, arith, inl, inr, append_assoc, length-append}
+use Rattle.std.proofs.Common.{◌≡◌, ◌⊎◌, ℕ, zero, suc, ◌+◌, ◌<◌, ◌≤◌, Some, None, Option, List, [], ◌∷◌, ◌++◌, length, refl, ap, sym, subst, ◌∙◌, arith, inl, inr, append_assoc, length-append}
 use Rattle.std.specs.List.{slice_get}
 use Rattle.std.specs.Option.{option_map, option_to_list}
 use Rattle.std.proofs.lemmas.Option.{slice_get_within}
@@ -7,7 +7,7 @@ use Rattle.init_match.specs.declared.keys.Side.{Side}
 use Rattle.init_match.specs.declared.keys.Side.TheVariants.{Send, Recv}
 use Rattle.init_match.specs.declared.keys.Call.{Call}
 use Rattle.init_match.specs.Calls.{of_key, facing}
-use Rattle.init_match.specs.Matching.{Pair, ArePaired, ArePairsOf, AreThePairs, turn_of, partner_before, pair_with, completed_by, pairs_after, pairs_of, later_slot}
+use Rattle.init_match.specs.Matching.{Pair, ArePaired, AreThePairs, turn_of, partner_before, pair_with, completed_by, pairs_after, pairs_of, later_slot}
 use Rattle.init_match.proofs.Placing.{stands_at}
 use Rattle.init_match.proofs.PairFacts.{append_none}
 use Rattle.init_match.proofs.Pairing.{paired_stays, completed_paired, paired_cases}

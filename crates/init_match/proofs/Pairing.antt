@@ -1,10 +1,9 @@
 -- Which pairs a list of calls has, and which one more call adds.
-use Rattle.std.proofs.Common.{◌≡◌, ◌≢◌, ◌⊎◌, ℕ, zero, suc, ◌+◌, ◌-◌, ◌<◌, ◌≤◌, Bool, true, false, cond, ◌&&◌, Some, None, Option, List, [], ◌∷◌, ◌++◌, length, map, refl, ap, sym, subst, ◌∙◌, arith, inl, inr, append_assoc, length-append}
+use Rattle.std.proofs.Common.{◌≡◌, ◌⊎◌, ℕ, zero, suc, ◌+◌, Bool, true, false, cond, ◌&&◌, Some, None, Option, List, [], ◌∷◌, ◌++◌, length, refl, ap, sym, subst, ◌∙◌, arith, inl, inr}
 use Rattle.std.specs.List.{slice_get, filter, enumerate_from}
-use Rattle.std.specs.Option.{option_map, option_to_list}
-use Rattle.std.proofs.lemmas.Bool.{cases_Bool, and_parts, false≢true}
+use Rattle.std.specs.Option.{option_map}
+use Rattle.std.proofs.lemmas.Bool.{and_parts, false≢true}
 use Rattle.std.proofs.lemmas.List.Elements.{filter-append}
-use Rattle.std.proofs.lemmas.Option.{slice_get_within}
 use Rattle.init_match.specs.declared.keys.Side.{Side}
 use Rattle.init_match.specs.declared.keys.Side.TheVariants.{Send, Recv}
 use Rattle.init_match.specs.declared.keys.Key.{Key}
@@ -75,7 +74,7 @@ pub paired_stays : (xs ys : List Call) (p : Pair) → ArePaired xs p → ArePair
 paired_stays xs ys p h = record { key = h.key; turn = h.turn; send = get_of_key Send h.key xs ys h.turn p.send h.send; recv = get_of_key Recv h.key xs ys h.turn p.recv h.recv }
 
 -- the last call is the one of its turn
-last_own : (before : List Call) (c : Call) → slice_get (of_key c.side c.key (before ++ c ∷ [])) (turn_of before c) ≡ Some (length before, c)
+pub last_own : (before : List Call) (c : Call) → slice_get (of_key c.side c.key (before ++ c ∷ [])) (turn_of before c) ≡ Some (length before, c)
 last_own before c =
     ap (λ es. slice_get es (turn_of before c)) (of_key-more c.side c.key before c ∙ ap (λ b. of_key c.side c.key before ++ cond b ((length before, c) ∷ []) []) (is_own c))
     ∙ get_back (of_key c.side c.key before) (length before, c) []
@@ -85,7 +84,7 @@ some_pair : {A B : Type 0} (f : A → B) (o : Option A) (b : B) → option_map f
 some_pair f None b is = cc
 some_pair f (Some a) b is = (a, refl, cc)
 
-by_side : (side : Side) (key : Key) (calls : List Call) (own other : ℕ × Call) (k : ℕ) → slice_get (of_key side key calls) k ≡ Some own → slice_get (of_key (facing side) key calls) k ≡ Some other
+pub by_side : (side : Side) (key : Key) (calls : List Call) (own other : ℕ × Call) (k : ℕ) → slice_get (of_key side key calls) k ≡ Some own → slice_get (of_key (facing side) key calls) k ≡ Some other
     → ArePaired calls (pair_with side own other)
 by_side Send key calls own other k o f = record { key = key; turn = k; send = o; recv = f }
 by_side Recv key calls own other k o f = record { key = key; turn = k; send = f; recv = o }

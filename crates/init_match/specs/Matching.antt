@@ -1,6 +1,6 @@
 -- Matching: the k-th accepted send of a key and the k-th accepted receive of that key are a pair, each counted among
 -- the accepted calls. By what calls match is after MPI 4.0, 4.2.1; in which order is this project's own.
-use Rattle.std.specs.Prelude.{◌≡◌, ℕ, ◌<◌, Option, Some, List, [], ◌∷◌, ◌++◌, length, max, take, slice_get, option_map, option_and_then, option_to_list}
+use Rattle.std.specs.Prelude.{◌≡◌, ◌⊎◌, ◌↔◌, ℕ, ◌<◌, Option, Some, List, [], ◌∷◌, ◌++◌, length, max, take, slice_get, option_map, option_and_then, option_to_list}
 use Rattle.init_match.specs.declared.keys.Side.{Side}
 use Rattle.init_match.specs.declared.keys.Side.TheVariants.{Send, Recv}
 use Rattle.init_match.specs.declared.keys.Key.{Key}
@@ -62,3 +62,13 @@ pub record ArePairsOf (calls : List Call) (pairs : List Pair) : Type 0 where
 -- the list of pairs is that
 abbrev pub AreThePairs : Type 0
 AreThePairs = (calls : List Call) → ArePairsOf calls (pairs_of calls)
+
+-- two slots are those of a pair
+pub record ArePartners (calls : List Call) (slot other : ℕ) : Type 0 where
+  pub pair : Pair
+  pub paired : ArePaired calls pair
+  pub slots : ((pair.send.0 ≡ slot) × (pair.recv.0 ≡ other)) ⊎ ((pair.recv.0 ≡ slot) × (pair.send.0 ≡ other))
+
+-- the partner of a slot is the other slot of the pair that it is in
+abbrev pub IsThePartner : Type 0
+IsThePartner = (calls : List Call) (slot other : ℕ) → (partner_of calls slot ≡ Some other) ↔ ArePartners calls slot other
