@@ -12,7 +12,7 @@ use Rattle.init_match.specs.declared.keys.Key.{Key}
 use Rattle.init_match.specs.declared.keys.Call.{Call}
 use Rattle.init_match.specs.Calls.{total, of_key}
 use Rattle.init_match.specs.Matching.{Pair, ArePaired, completed_by}
-use Rattle.init_match.specs.World.{Calls, number_fault, size_fault, volume, init_answer, after_init}
+use Rattle.init_match.specs.World.{WorldState, number_fault, size_fault, volume, init_answer, after_init}
 use Rattle.init_match.specs.Merges.{Named, IsMerge, AreAccepted, AreMatched, DoMergesAgree}
 use Rattle.init_match.proofs.PairFacts.{append_none}
 use Rattle.init_match.proofs.Pairing.{paired_stays, completed_paired, paired_cases}
@@ -33,7 +33,7 @@ record IsGood (ranks : ℕ) (before rest : List Call) : Type 0 where
   room : volume before + volume rest ≤ 67108864
 
 -- what an answer says
-record IsTaken (w : Calls) (c : Call) : Type 0 where
+record IsTaken (w : WorldState) (c : Call) : Type 0 where
   number : number_fault w.ranks c ≡ None
   size : size_fault (completed_by w.calls c) ≡ None
   room : volume w.calls + total c ≤ 67108864
@@ -48,11 +48,11 @@ taken_by None None true sum slot ok = absurd (false≢true ok)
 taken_by None (Some g) full sum slot ok = absurd (false≢true ok)
 taken_by (Some f) g full sum slot ok = absurd (false≢true ok)
 
-answer_is : (w : Calls) (c : Call) → init_answer w c ≡ answer_of (number_fault w.ranks c) (size_fault (completed_by w.calls c)) (nat_lt 67108864 (volume w.calls + total c)) (volume w.calls + total c) (length w.calls)
+answer_is : (w : WorldState) (c : Call) → init_answer w c ≡ answer_of (number_fault w.ranks c) (size_fault (completed_by w.calls c)) (nat_lt 67108864 (volume w.calls + total c)) (volume w.calls + total c) (length w.calls)
 unfolding answer_of
 answer_is w c = refl
 
-taken : (w : Calls) (c : Call) → IsOk (init_answer w c) → IsTaken w c
+taken : (w : WorldState) (c : Call) → IsOk (init_answer w c) → IsTaken w c
 taken w c ok =
     let h = taken_by (number_fault w.ranks c) (size_fault (completed_by w.calls c)) (nat_lt 67108864 (volume w.calls + total c)) (volume w.calls + total c) (length w.calls)
     (subst (λ a. IsOk a) (answer_is w c) ok) in
@@ -62,12 +62,12 @@ gives : (f g : Option InitFault) (full : Bool) (sum slot : ℕ) → f ≡ None �
 unfolding answer_of
 gives f g full sum slot a b d = rw (a, b, d) refl
 
-taken_answer : (w : Calls) (c : Call) → IsTaken w c → init_answer w c ≡ Ok (length w.calls)
+taken_answer : (w : WorldState) (c : Call) → IsTaken w c → init_answer w c ≡ Ok (length w.calls)
 taken_answer w c t =
     answer_is w c ∙ gives (number_fault w.ranks c) (size_fault (completed_by w.calls c)) (nat_lt 67108864 (volume w.calls + total c)) (volume w.calls + total c) (length w.calls)
     t.number t.size (le-ltb 67108864 (volume w.calls + total c) t.room)
 
-with_call : Calls → Call → Calls
+with_call : WorldState → Call → WorldState
 with_call w c = record w { calls = w.calls ++ c ∷ [] }
 
 -- the sizes of a completed pair
@@ -82,7 +82,7 @@ sizes_of (Some q) none p is =
     bad : ◌≡◌ {A = Option InitFault} (Some (SizeMismatch (total q.send.1) (total q.recv.1))) None → total p.send.1 ≡ total p.recv.1
     bad e = cc
 
-sizes_more : (w : Calls) (c : Call) → SizesAgree w.calls → IsTaken w c → SizesAgree (w.calls ++ c ∷ [])
+sizes_more : (w : WorldState) (c : Call) → SizesAgree w.calls → IsTaken w c → SizesAgree (w.calls ++ c ∷ [])
 sizes_more w c sizes t p h =
     elim (paired_cases w.calls c p h) [
       | inl old ↦ sizes p old
@@ -103,7 +103,7 @@ fault_none None e = refl
 fault_none (Some f) e = absurd (omega arith)
 
 -- accepted calls are good, and good ones are accepted
-accepted_good : (w : Calls) (rest : List Call) → SizesAgree w.calls → volume w.calls ≤ 67108864 → AreAccepted w rest → IsGood w.ranks w.calls rest
+accepted_good : (w : WorldState) (rest : List Call) → SizesAgree w.calls → volume w.calls ≤ 67108864 → AreAccepted w rest → IsGood w.ranks w.calls rest
 accepted_good w [] sizes room a = record {
   fits = refl;
   sizes = subst SizesAgree (append_none w.calls) sizes;
@@ -123,7 +123,7 @@ accepted_good w (c ∷ rest) sizes room (ok, more) =
       room = omega arith;
     }
 
-good_accepted : (w : Calls) (rest : List Call) → IsGood w.ranks w.calls rest → AreAccepted w rest
+good_accepted : (w : WorldState) (rest : List Call) → IsGood w.ranks w.calls rest → AreAccepted w rest
 good_accepted w [] g = tt
 good_accepted w (c ∷ rest) g =
     let all = sum_by-cons total c rest in

@@ -13,7 +13,7 @@ use Rattle.init_match.specs.declared.keys.Call.{Call}
 use Rattle.init_match.specs.declared.world.World.TheInside.{Inside}
 use Rattle.init_match.specs.Calls.{total, facing}
 use Rattle.init_match.specs.Matching.{partner_before, turn_of, completed_by, pairs_after, pairs_of}
-use Rattle.init_match.specs.World.{Calls, completed_answer, is_within, matched_as, size_fault, volume}
+use Rattle.init_match.specs.World.{WorldState, completed_answer, is_within, matched_as, size_fault, volume}
 use Rattle.init_match.specs.Sound.{IsFit, IsWorld}
 use Rattle.init_match.proofs.Placing.{stands_at}
 
@@ -96,7 +96,7 @@ world_grown w new c s f g =
     }
 
 -- the pair that a call completes, where the sizes are the same
-pub completed_is : (w : Calls) (c : Call) (o : Option Matched) → ◌≡◌ {A = Result (Option Matched) InitFault} (Ok o) (completed_answer w c) → o ≡ option_map (matched_as w.grain w.depth) (completed_by w.calls c)
+pub completed_is : (w : WorldState) (c : Call) (o : Option Matched) → ◌≡◌ {A = Result (Option Matched) InitFault} (Ok o) (completed_answer w c) → o ≡ option_map (matched_as w.grain w.depth) (completed_by w.calls c)
 completed_is w c o is = by_fault (size_fault (completed_by w.calls c)) (option_map (matched_as w.grain w.depth) (completed_by w.calls c)) is
   where
     by_fault : (f : Option InitFault) (p : Option Matched) → ◌≡◌ {A = Result (Option Matched) InitFault} (Ok o) (option_map_or Err f (Ok p)) → o ≡ p

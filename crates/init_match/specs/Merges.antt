@@ -5,7 +5,7 @@ use Rattle.init_match.specs.declared.keys.Side.TheVariants.{Send, Recv}
 use Rattle.init_match.specs.declared.keys.Key.{Key}
 use Rattle.init_match.specs.declared.keys.Call.{Call}
 use Rattle.init_match.specs.Matching.{Pair, ArePaired}
-use Rattle.init_match.specs.World.{Calls, init_answer, after_init}
+use Rattle.init_match.specs.World.{WorldState, init_answer, after_init}
 
 -- a call with a name, by which it is known in each merge
 pub record Named : Type 0 where
@@ -28,7 +28,7 @@ IsMerge lists (c ∷ calls) =
     (rank : ℕ) × (rest : List Named) × (slice_get lists rank ≡ Some (c ∷ rest)) × IsMerge (slice_set lists rank rest) calls
 
 -- each call is accepted in its turn
-abbrev pub AreAccepted : Calls → List Call → Type 0
+abbrev pub AreAccepted : WorldState → List Call → Type 0
 AreAccepted w [] = ⊤
 AreAccepted w (c ∷ calls) = IsOk (init_answer w c) × AreAccepted (after_init w c (init_answer w c)) calls
 
@@ -40,11 +40,11 @@ pub record AreMatched (calls : List Named) (a b : Named) : Type 0 where
   pub recv : slice_get calls pair.recv.0 ≡ Some b
 
 -- where one merge is accepted, each merge is, and the same calls are paired
-pub record MergesAgree (w : Calls) (calls others : List Named) : Type 0 where
+pub record MergesAgree (w : WorldState) (calls others : List Named) : Type 0 where
   pub accepted : AreAccepted w (map (λ c. c.call) others)
   pub matched : (a b : Named) → AreMatched calls a b → AreMatched others a b
 
 abbrev pub DoMergesAgree : Type 0
 DoMergesAgree =
-    (w : Calls) (lists : List (List Named)) (calls others : List Named) → w.calls ≡ [] → AreOwn lists → IsMerge lists calls → IsMerge lists others
+    (w : WorldState) (lists : List (List Named)) (calls others : List Named) → w.calls ≡ [] → AreOwn lists → IsMerge lists calls → IsMerge lists others
     → AreAccepted w (map (λ c. c.call) calls) → MergesAgree w calls others

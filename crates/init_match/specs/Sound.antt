@@ -5,9 +5,9 @@ use Rattle.init_match.specs.declared.keys.Call.{Call}
 use Rattle.init_match.specs.declared.world.World.TheInside.{Inside}
 use Rattle.init_match.specs.Calls.{total}
 use Rattle.init_match.specs.Matching.{pairs_of}
-use Rattle.init_match.specs.World.{Calls, matched_as, volume}
+use Rattle.init_match.specs.World.{WorldState, matched_as, volume}
 
-abbrev pub calls_of : Inside → Calls
+abbrev pub calls_of : Inside → WorldState
 calls_of w = record { ranks = w.ranks; grain = w.grain; depth = w.depth; calls = w.ledger }
 
 -- an accepted call keeps the limits

@@ -13,7 +13,7 @@ use Rattle.init_match.specs.Calls.{total}
 use Rattle.init_match.specs.Matching.{Pair, completed_by, pairs_of}
 
 -- how many ranks there are, the grain and depth of each pair, and the accepted calls in order
-pub record Calls : Type 0 where
+pub record WorldState : Type 0 where
   pub ranks : ℕ
   pub grain : ℕ
   pub depth : ℕ
@@ -24,7 +24,7 @@ abbrev pub is_within : ℕ → ℕ → ℕ → Bool
 is_within low high n = nat_le low n && nat_le n high
 
 -- a new world
-abbrev pub new_world : ℕ → ℕ → ℕ → Result Calls WorldFault
+abbrev pub new_world : ℕ → ℕ → ℕ → Result WorldState WorldFault
 new_world ranks grain depth =
     if not (is_within 1 64 ranks) then Err fault.BadRanks else (
     if not (is_within 1 16777216 grain) then Err fault.BadGrain else (
@@ -72,11 +72,11 @@ shape_of grain depth send recv = record {
 abbrev pub matched_as : ℕ → ℕ → Pair → Matched
 matched_as grain depth p = record { send_slot = p.send.0; recv_slot = p.recv.0; geometry = shape_of grain depth p.send.1 p.recv.1 }
 
-abbrev pub matched_pairs : Calls → List Matched
+abbrev pub matched_pairs : WorldState → List Matched
 matched_pairs w = map (matched_as w.grain w.depth) (pairs_of w.calls)
 
 -- the pair that a call completes, unless the sizes differ
-abbrev pub completed_answer : Calls → Call → Result (Option Matched) InitFault
+abbrev pub completed_answer : WorldState → Call → Result (Option Matched) InitFault
 completed_answer w c = option_map_or Err (size_fault (completed_by w.calls c)) (Ok (option_map (matched_as w.grain w.depth) (completed_by w.calls c)))
 
 -- the bytes of all accepted calls
@@ -84,13 +84,13 @@ abbrev pub volume : List Call → ℕ
 volume calls = sum_by total calls
 
 -- a call is refused by the first of these faults, and else has the next slot
-abbrev pub init_answer : Calls → Call → Result ℕ InitFault
+abbrev pub init_answer : WorldState → Call → Result ℕ InitFault
 init_answer w c =
     option_map_or Err (number_fault w.ranks c) (
     option_map_or Err (size_fault (completed_by w.calls c)) (
     if nat_lt 67108864 (volume w.calls + total c) then Err (WorldFull (volume w.calls + total c)) else Ok (length w.calls)))
 
 -- an accepted call stands behind those before; a refused one changes nothing
-abbrev pub after_init : Calls → Call → Result ℕ InitFault → Calls
+abbrev pub after_init : WorldState → Call → Result ℕ InitFault → WorldState
 after_init w c (Ok slot) = record w { calls = w.calls ++ c ∷ [] }
 after_init w c (Err _) = w

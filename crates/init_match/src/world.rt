@@ -40,9 +40,9 @@ pub struct World {
 }
 
 impl Model for World {
-    ghost use Rattle.init_match.specs.World.{Calls};
+    ghost use Rattle.init_match.specs.World.{WorldState};
 
-    ghost Value = { Calls };
+    ghost Value = { WorldState };
 
     ghost use Rattle.init_match.specs.Sound.{calls_of, IsWorld};
 
