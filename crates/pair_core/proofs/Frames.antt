@@ -17,19 +17,19 @@ pub sees : (g : Shape) (word : Name → ℕ) (life : ℕ → Life) (seen : ℕ �
     → Seen g word life seen → (Fits g x → IsLater (word x) w) → Seen g (put_word x w word) life (put seen n (put_word x w (seen n)))
 sees g word life seen n x w all more m y live fits =
     put_cases seen n (put_word x w (seen n)) (λ i f. life i ≢ Spent → IsLater (f y) (put_word x w word y))
-        (λ here. both_words x y w w (seen n) word (λ z a b. Fits g z → IsLater a b) (λ _. later_refl w) (λ z f. all n z here f) fits)
-        (λ i _ here. later_trans (seen i y) (word y) (put_word x w word y) (all i y here fits)
-            (any_word x y w word (λ z v. Fits g z → IsLater (word z) v) more (λ z _. later_refl (word z)) fits))
-        m live
+    (λ here. both_words x y w w (seen n) word (λ z a b. Fits g z → IsLater a b) (λ _. later_refl w) (λ z f. all n z here f) fits)
+    (λ i _ here. later_trans (seen i y) (word y) (put_word x w word y) (all i y here fits)
+    (any_word x y w word (λ z v. Fits g z → IsLater (word z) v) more (λ z _. later_refl (word z)) fits))
+    m live
 
 -- the seat n saw a word as it is
 pub looks_at : (g : Shape) (word : Name → ℕ) (life : ℕ → Life) (seen : ℕ → Name → ℕ) (n : ℕ) (x : Name)
     → Seen g word life seen → Seen g word life (put seen n (put_word x (word x) (seen n)))
 looks_at g word life seen n x all m y live fits =
     put_cases seen n (put_word x (word x) (seen n)) (λ i f. life i ≢ Spent → IsLater (f y) (word y))
-        (λ here. any_word x y (word x) (seen n) (λ z v. Fits g z → IsLater v (word z)) (λ _. later_refl (word x)) (λ z f. all n z here f) fits)
-        (λ i _ here. all i y here fits)
-        m live
+    (λ here. any_word x y (word x) (seen n) (λ z v. Fits g z → IsLater v (word z)) (λ _. later_refl (word x)) (λ z f. all n z here f) fits)
+    (λ i _ here. all i y here fits)
+    m live
 
 -- what another seat saw leaves what the receive side has seen
 pub owns_else : (g : Shape) (take ret : ℕ → ℕ) (seen : ℕ → Name → ℕ) (n : ℕ) (f : Name → ℕ) → n ≢ 1 → Owns g take ret (seen 1) → Owns g take ret (put seen n f 1)

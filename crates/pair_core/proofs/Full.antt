@@ -35,7 +35,7 @@ pub full_passes : (g : Shape) → IsShape g → (w k i : ℕ) → i < pieces g �
 unfolding needed
 full_passes g v w k i inside h = and_both (round_in w == k) (list_all (λ p. laid g w i p == 1) (needed g i)) (eq-eqb (round_in w) k h.round)
     (all_range (λ p. laid g w i p == 1) (first_part g i) (need_count g i)
-        (λ p low high. eq-eqb (laid g w i p) 1 (h.all p (range_touch g v i p inside low high))))
+    (λ p low high. eq-eqb (laid g w i p) 1 (h.all p (range_touch g v i p inside low high))))
 
 pub passes_full : (g : Shape) → IsShape g → (w k i : ℕ) → i < pieces g → is_full g w k i ≡ true → IsFull g w k i
 unfolding needed
@@ -43,7 +43,7 @@ passes_full g v w k i inside h = record {
   round = eqb-true (round_in w) k (and_first (round_in w == k) (list_all (λ p. laid g w i p == 1) (needed g i)) h);
   all = λ p t. let r = touch_range g v i p inside t in
       eqb-true (laid g w i p) 1 (range_all (λ q. laid g w i q == 1) (first_part g i) (need_count g i)
-          (and_second (round_in w == k) (list_all (λ q. laid g w i q == 1) (needed g i)) h) p r.low r.high);
+      (and_second (round_in w == k) (list_all (λ q. laid g w i q == 1) (needed g i)) h) p r.low r.high);
 }
 
 -- a word that lacks a partition isn't full

@@ -38,7 +38,7 @@ told_mark g claim claim' take piece released send recv h p inside some old new s
       marks = λ q l. elim (cases_eq q p) [
         | inl is ↦ subst (λ (z : ℕ). Upto (e ∷ h) (λ k. entry.Mark k z) (next_round claim' z)) (sym is)
             (upto_same (e ∷ h) (λ k. entry.Mark k p) (send.round + 1) _ (sym new)
-                (upto_add h (λ k. entry.Mark k p) send.round some (λ k x. cc) (upto_same h (λ k. entry.Mark k p) _ send.round old (t.marks p inside))))
+            (upto_add h (λ k. entry.Mark k p) send.round some (λ k x. cc) (upto_same h (λ k. entry.Mark k p) _ send.round old (t.marks p inside))))
         | inr other ↦ upto_same (e ∷ h) (λ k. entry.Mark k q) _ _ (sym (same q l other))
             (upto_skip h e (λ k. entry.Mark k q) _ (λ k x. other (let z : p ≡ q = cc in sym z)) (t.marks q l))
       ];
@@ -89,14 +89,14 @@ but_lay g claim take piece released send recv h i p w inside touch stored some l
     let piece' : ℕ → ℕ → ℕ = put_pair piece place i w in
     let old : lay_bound g piece send i p ≡ send.round = stored_is i send.pieces send.round _ stored ∙ (omega arith) in
     let new : lay_bound g piece' send i p ≡ send.round + 1 = stored_is i send.pieces send.round _ stored
-        ∙ (let z : laid g (piece' place i) i p ≡ 1 = subst (λ (z : ℕ). laid g z i p ≡ 1) (sym (put_pair_here piece place i w)) gains in omega arith) in
+    ∙ (let z : laid g (piece' place i) i p ≡ 1 = subst (λ (z : ℕ). laid g z i p ≡ 1) (sym (put_pair_here piece place i w)) gains in omega arith) in
     let kept : (j q : ℕ) → Touches g j q → ¬ ((j ≡ i) × (q ≡ p)) → laid g (piece' place j) j q ≡ laid g (piece place j) j q = λ j q tq other.
-        put_pair_at piece place i w (λ z. laid g z j q ≡ laid g (piece place j) j q) place j
-            (λ _ is. subst (λ (z : ℕ). laid g w z q ≡ laid g (piece place z) z q) (sym is)
-                (same q (subst (λ (z : ℕ). Touches g z q) is tq) (λ f. other (is, f))))
-            (λ _. refl) in
+    put_pair_at piece place i w (λ z. laid g z j q ≡ laid g (piece place j) j q) place j
+    (λ _ is. subst (λ (z : ℕ). laid g w z q ≡ laid g (piece place z) z q) (sym is)
+    (same q (subst (λ (z : ℕ). Touches g z q) is tq) (λ f. other (is, f))))
+    (λ _. refl) in
     let bound : (j q : ℕ) → Touches g j q → ¬ ((j ≡ i) × (q ≡ p)) → lay_bound g piece send j q ≡ lay_bound g piece' send j q = λ j q tq other.
-        ap (λ (z : ℕ). if_stored j send.pieces send.round z) (sym (kept j q tq other)) in
+    ap (λ (z : ℕ). if_stored j send.pieces send.round z) (sym (kept j q tq other)) in
     record {
       opens = upto_skip h e entry.Open _ (λ k x. cc) t.opens;
       shuts = upto_skip h e entry.Shut _ (λ k x. cc) t.shuts;
@@ -107,7 +107,7 @@ but_lay g claim take piece released send recv h i p w inside touch stored some l
         | inl is ↦ elim (cases_eq q p) [
           | inl it ↦ subst (λ (z : ℕ × ℕ). Upto (e ∷ h) (λ k. entry.Lay k z.1 z.0) (lay_bound g piece' send z.0 z.1)) (λ x. (sym is x, sym it x))
               (upto_same (e ∷ h) (λ k. entry.Lay k p i) (send.round + 1) _ (sym new)
-                  (upto_add h (λ k. entry.Lay k p i) send.round some (λ k x. cc) (upto_same h (λ k. entry.Lay k p i) _ send.round old (t.lays i p inside touch))))
+              (upto_add h (λ k. entry.Lay k p i) send.round some (λ k x. cc) (upto_same h (λ k. entry.Lay k p i) _ send.round old (t.lays i p inside touch))))
           | inr not_it ↦ upto_same (e ∷ h) (λ k. entry.Lay k q j) _ _ (bound j q tq (λ b. not_it b.1))
               (upto_skip h e (λ k. entry.Lay k q j) _ (λ k x. not_it (let z : p ≡ q = cc in sym z)) (t.lays j q l tq))
         ]
@@ -158,7 +158,7 @@ told_lay g claim take piece released send recv h i p w inside touch stored some 
     let old : out_bound g piece send i ≡ send.round = stored_is i send.pieces send.round _ stored ∙ (let z = one_false (is_full g (piece place i) send.round i) empty in omega arith) in
     let now : is_full g (piece' place i) send.round i ≡ full = ap (λ (z : ℕ). is_full g z send.round i) (put_pair_here piece place i w) ∙ is in
     let bound : (j : ℕ) → j ≢ i → out_bound g piece send j ≡ out_bound g piece' send j = λ j other.
-        put_pair_at piece place i w (λ z. out_bound g piece send j ≡ if_stored j send.pieces send.round (one_if (is_full g z send.round j))) place j (λ _ f. absurd (other f)) (λ _. refl) in
+    put_pair_at piece place i w (λ z. out_bound g piece send j ≡ if_stored j send.pieces send.round (one_if (is_full g z send.round j))) place j (λ _ f. absurd (other f)) (λ _. refl) in
     go full now but old bound
   where
     go : (full : Bool) → is_full g (put_pair piece (send.round % g.depth) i w (send.round % g.depth) i) send.round i ≡ full
@@ -170,23 +170,23 @@ told_lay g claim take piece released send recv h i p w inside touch stored some 
         let piece' : ℕ → ℕ → ℕ = put_pair piece (send.round % g.depth) i w in let e : Entry = entry.Lay send.round p i in let o : Entry = entry.Out send.round i in
         let new : out_bound g piece' send i ≡ send.round + 1 = stored_is i send.pieces send.round _ stored ∙ (let z = one_true (is_full g (piece' (send.round % g.depth) i) send.round i) now in omega arith) in
         with_outs g claim take piece' released send recv (o ∷ e ∷ h) (but_out g claim take piece' released send recv (e ∷ h) send.round i inside but)
-            (λ j l. elim (cases_eq j i) [
-              | inl it ↦ subst (λ (z : ℕ). Upto (o ∷ e ∷ h) (λ k. entry.Out k z) (out_bound g piece' send z)) (sym it)
-                  (upto_same (o ∷ e ∷ h) (λ k. entry.Out k i) (send.round + 1) _ (sym new)
-                      (upto_add (e ∷ h) (λ k. entry.Out k i) send.round some (λ k x. cc)
-                          (upto_skip h e (λ k. entry.Out k i) send.round (λ k x. cc) (upto_same h (λ k. entry.Out k i) _ send.round old (t.outs i inside)))))
-              | inr other ↦ upto_skip (e ∷ h) o (λ k. entry.Out k j) _ (λ k x. other (let z : i ≡ j = cc in sym z))
-                  (upto_skip h e (λ k. entry.Out k j) _ (λ k x. cc) (upto_same h (λ k. entry.Out k j) _ _ (bound j other) (t.outs j l)))
-            ])
+        (λ j l. elim (cases_eq j i) [
+          | inl it ↦ subst (λ (z : ℕ). Upto (o ∷ e ∷ h) (λ k. entry.Out k z) (out_bound g piece' send z)) (sym it)
+              (upto_same (o ∷ e ∷ h) (λ k. entry.Out k i) (send.round + 1) _ (sym new)
+              (upto_add (e ∷ h) (λ k. entry.Out k i) send.round some (λ k x. cc)
+              (upto_skip h e (λ k. entry.Out k i) send.round (λ k x. cc) (upto_same h (λ k. entry.Out k i) _ send.round old (t.outs i inside)))))
+          | inr other ↦ upto_skip (e ∷ h) o (λ k. entry.Out k j) _ (λ k x. other (let z : i ≡ j = cc in sym z))
+              (upto_skip h e (λ k. entry.Out k j) _ (λ k x. cc) (upto_same h (λ k. entry.Out k j) _ _ (bound j other) (t.outs j l)))
+        ])
     go false now but old bound =
         let piece' : ℕ → ℕ → ℕ = put_pair piece (send.round % g.depth) i w in let e : Entry = entry.Lay send.round p i in
         let new : out_bound g piece' send i ≡ send.round = stored_is i send.pieces send.round _ stored ∙ (let z = one_false (is_full g (piece' (send.round % g.depth) i) send.round i) now in omega arith) in
         with_outs g claim take piece' released send recv (e ∷ h) but
-            (λ j l. elim (cases_eq j i) [
-              | inl it ↦ subst (λ (z : ℕ). Upto (e ∷ h) (λ k. entry.Out k z) (out_bound g piece' send z)) (sym it)
-                  (upto_skip h e (λ k. entry.Out k i) _ (λ k x. cc) (upto_same h (λ k. entry.Out k i) _ _ (old ∙ sym new) (t.outs i inside)))
-              | inr other ↦ upto_skip h e (λ k. entry.Out k j) _ (λ k x. cc) (upto_same h (λ k. entry.Out k j) _ _ (bound j other) (t.outs j l))
-            ])
+        (λ j l. elim (cases_eq j i) [
+          | inl it ↦ subst (λ (z : ℕ). Upto (e ∷ h) (λ k. entry.Out k z) (out_bound g piece' send z)) (sym it)
+              (upto_skip h e (λ k. entry.Out k i) _ (λ k x. cc) (upto_same h (λ k. entry.Out k i) _ _ (old ∙ sym new) (t.outs i inside)))
+          | inr other ↦ upto_skip h e (λ k. entry.Out k j) _ (λ k x. cc) (upto_same h (λ k. entry.Out k j) _ _ (bound j other) (t.outs j l))
+        ])
 
 module _ {A : Type 0} where
   pub tries_claim_adds : (g : Shape) → IsShape g → (s : Core A) (n p : ℕ) (a : A) (h : List Entry) → Sound g s → IsAllowed g s (TryClaim n p a) → Tells g s h
@@ -214,22 +214,25 @@ module _ {A : Type 0} where
           record {
             tells = told_mark g claim (put claim c w) take piece released s.send s.recv h p inside some (omega arith) next
                 (λ q l other. put_at claim c w (λ z. round_in z + bit z (q % 32) ≡ next_round claim q) (q / 32)
-                    (λ f. let b = bit_or_else (claim c) (p % 32) (q % 32) (λ x. other (omega arith)) in
-                        let x : round_in (claim c) + bit (claim c) (q % 32) ≡ next_round claim q = ap (λ z. round_in (claim z) + bit (claim z) (q % 32)) (sym f) in omega arith)
-                    (λ _. refl)) t;
-            order = λ o. ((
-              inside,
-              not_above h (λ k. entry.Mark k p) _ s.send.round (t.marks p inside) (omega arith),
-              has_below h entry.Open _ s.send.round t.opens some (omega arith),
-              not_above h entry.Shut _ s.send.round t.shuts (omega arith),
-            ), o);
+                (λ f. let b = bit_or_else (claim c) (p % 32) (q % 32) (λ x. other (omega arith)) in
+                let x : round_in (claim c) + bit (claim c) (q % 32) ≡ next_round claim q = ap (λ z. round_in (claim z) + bit (claim z) (q % 32)) (sym f) in omega arith)
+                (λ _. refl)) t;
+            order = λ o. (
+              (
+                inside,
+                not_above h (λ k. entry.Mark k p) _ s.send.round (t.marks p inside) (omega arith),
+                has_below h entry.Open _ s.send.round t.opens some (omega arith),
+                not_above h entry.Shut _ s.send.round t.shuts (omega arith),
+              ),
+              o,
+            );
           }
 
   -- a lay of partition q in round r, where that is the sender's
   abbrev AddsLay : Shape → Core A → ℕ → List Entry → ℕ → ℕ → Bool → Type 0
   AddsLay g s i h r q full =
       Told g (λ c. s.word (Claim c)) (λ x. s.word (Take x)) (put_pair (λ d j. s.word (Piece d j)) (r % g.depth) i (bit_or (s.word (Piece (r % g.depth) i)) (2 ^ (q - first_part g i))))
-          (round_in (s.word Release)) s.send s.recv ((where_so full (entry.Out r i) ++ entry.Lay r q i ∷ []) ++ h)
+      (round_in (s.word Release)) s.send s.recv ((where_so full (entry.Out r i) ++ entry.Lay r q i ∷ []) ++ h)
       × (IsInOrder g h → IsInOrder g ((where_so full (entry.Out r i) ++ entry.Lay r q i ∷ []) ++ h))
 
   -- what the claim that pends says of the words
@@ -267,15 +270,15 @@ module _ {A : Type 0} where
         ]),
         (λ j m has. ⊎_elim (λ y. absurd (cc))
             (λ y.
-                let l = t.within.outs j m y in let b = ((t.outs m l j).0 y).1 in
-                let c = stored_is m s.send.pieces S (one_if (is_full g (piece place m) S m)) (omega arith) in let z = one_most (is_full g (piece place m) S m) in omega arith)
+            let l = t.within.outs j m y in let b = ((t.outs m l j).0 y).1 in
+            let c = stored_is m s.send.pieces S (one_if (is_full g (piece place m) S m)) (omega arith) in let z = one_most (is_full g (piece place m) S m) in omega arith)
             has),
       ) in
       go full is told follows_lay out
     where
       go : (full : Bool) → is_full g (bit_or (s.word (Piece (s.send.round % g.depth) i)) (2 ^ (p - first_part g i))) s.send.round i ≡ full
           → Told g (λ c. s.word (Claim c)) (λ x. s.word (Take x)) (put_pair (λ d j. s.word (Piece d j)) (s.send.round % g.depth) i (bit_or (s.word (Piece (s.send.round % g.depth) i)) (2 ^ (p - first_part g i))))
-              (round_in (s.word Release)) s.send s.recv (where_so full (entry.Out s.send.round i) ++ entry.Lay s.send.round p i ∷ h)
+          (round_in (s.word Release)) s.send s.recv (where_so full (entry.Out s.send.round i) ++ entry.Lay s.send.round p i ∷ h)
           → Follows g h (entry.Lay s.send.round p i)
           → (is_full g (bit_or (s.word (Piece (s.send.round % g.depth) i)) (2 ^ (p - first_part g i))) s.send.round i ≡ true → Follows g (entry.Lay s.send.round p i ∷ h) (entry.Out s.send.round i))
           → AddsLay g s i h s.send.round p full
@@ -300,5 +303,5 @@ module _ {A : Type 0} where
             | inr other ↦ omega arith
           ] in
           let made = subst (λ (z : ℕ). AddsLay g s i h z x.partition (full z x.partition)) (sym is.round)
-              (adds_lay g v s x.partition i h r t lay.piece touch is.claimed lacks (full s.send.round x.partition) refl) in
+          (adds_lay g v s x.partition i h r t lay.piece touch is.claimed lacks (full s.send.round x.partition) refl) in
           record { tells = made.0; order = made.1 }

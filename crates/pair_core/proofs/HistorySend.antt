@@ -46,7 +46,7 @@ bound_empty g v piece send none = (
         let lacks = lacks_full g v (piece (send.round % g.depth) i) send.round i (first_part g i) inside t (λ e. omega arith) in
         stored_is i send.pieces send.round _ low ∙ (let y = one_false (is_full g (piece (send.round % g.depth) i) send.round i) lacks in omega arith)
     | inr high ↦ waiting_is i send.pieces send.round _ high
-  ])
+  ]),
 )
 
 -- Where each piece has all of its partitions, each bound is the round after.
@@ -57,7 +57,7 @@ bound_full g v piece send whole all = (
   (λ i p inside t. stored_is i send.pieces send.round _ (omega arith) ∙ (let z = (all i inside).all p t in omega arith)),
   (λ i inside.
       let f = full_passes g v (piece (send.round % g.depth) i) send.round i inside (all i inside) in
-      stored_is i send.pieces send.round _ (omega arith) ∙ (let y = one_true (is_full g (piece (send.round % g.depth) i) send.round i) f in omega arith))
+      stored_is i send.pieces send.round _ (omega arith) ∙ (let y = one_true (is_full g (piece (send.round % g.depth) i) send.round i) f in omega arith)),
 )
 
 -- a piece word that is stored adds nothing
@@ -69,9 +69,9 @@ told_piece : (g : Shape) → IsShape g → (claim take : ℕ → ℕ) (piece : �
     → Told g claim take (put_pair piece (k % g.depth) i (empty k)) released record { round = k; pieces = i + 1; opened = 0; shut = 0; markers = send.markers } recv h
 told_piece g v claim take piece released k i send recv h inside n opens shuts old t =
     let new = bound_empty g v (put_pair piece (k % g.depth) i (empty k)) record { round = k; pieces = i + 1; opened = 0; shut = 0; markers = send.markers }
-        (λ j p a b touch. put_pair_at piece (k % g.depth) i (empty k) (λ z. laid g z j p ≡ 0) (k % g.depth) j
-            (λ _ e. let small = bit_small g v j p a touch in empty_bit k (p - first_part g j) (omega arith))
-            (λ o. let x : j ≢ i = (λ e. o (refl, e)) in n.empty j p (omega arith) touch)) in
+    (λ j p a b touch. put_pair_at piece (k % g.depth) i (empty k) (λ z. laid g z j p ≡ 0) (k % g.depth) j
+    (λ _ e. let small = bit_small g v j p a touch in empty_bit k (p - first_part g j) (omega arith))
+    (λ o. let x : j ≢ i = (λ e. o (refl, e)) in n.empty j p (omega arith) touch)) in
     record {
       opens = upto_same h entry.Open _ _ (let z = opens in omega arith) t.opens;
       shuts = upto_same h entry.Shut _ _ (let z = shuts in omega arith) t.shuts;
@@ -92,23 +92,23 @@ module _ {A : Type 0} where
       record {
         tells = ⊎_elim
             (λ first.
-                let is = first.0 in let idle = first.1 in let next = first.2 in
-                let opened = r.progress.shuts_last (omega arith) in let whole = r.progress.opens_last (omega arith) in
-                let full = bound_full g v piece s.send whole
-                    (λ j l. record { round = r.pieces.current j (omega arith); all = λ p touch. r.pieces.ended j p l (omega arith) touch }) in
-                subst (λ (z : ℕ). Tells g (after g s (StorePiece k z)) h) (sym is)
-                    (told_piece g v claim take piece released k 0 s.send s.recv h (let x = a.0 in omega arith)
-                        (next_first g v claim piece s.send s.recv released (round_in (s.seen 0 Release)) k r.progress r.gates r.pieces idle next saw a.2 (let x = a.0 in omega arith))
-                        (omega arith) (omega arith)
-                        ((λ j p l touch. full.0 j p l touch ∙ sym next), (λ j l. full.1 j l ∙ sym next)) t))
+            let is = first.0 in let idle = first.1 in let next = first.2 in
+            let opened = r.progress.shuts_last (omega arith) in let whole = r.progress.opens_last (omega arith) in
+            let full = bound_full g v piece s.send whole
+            (λ j l. record { round = r.pieces.current j (omega arith); all = λ p touch. r.pieces.ended j p l (omega arith) touch }) in
+            subst (λ (z : ℕ). Tells g (after g s (StorePiece k z)) h) (sym is)
+            (told_piece g v claim take piece released k 0 s.send s.recv h (let x = a.0 in omega arith)
+            (next_first g v claim piece s.send s.recv released (round_in (s.seen 0 Release)) k r.progress r.gates r.pieces idle next saw a.2 (let x = a.0 in omega arith))
+            (omega arith) (omega arith)
+            ((λ j p l touch. full.0 j p l touch ∙ sym next), (λ j l. full.1 j l ∙ sym next)) t))
             (λ more.
-                let is = more.1 in let same = more.2 in
-                let n = next_more g v claim piece s.send s.recv released i r.progress r.gates r.pieces a.0 is in
-                let none : s.send.opened ≡ 0 = elim (cases_lt 0 s.send.opened) [ inl l ↦ let x = r.progress.opens_last l in let y = a.0 in absurd (omega arith) | inr l ↦ omega arith ] in
-                let unshut : s.send.shut ≡ 0 = elim (cases_lt 0 s.send.shut) [ inl l ↦ let x = r.progress.shuts_last l in absurd (omega arith) | inr l ↦ omega arith ] in
-                subst (λ (z : ℕ). Tells g (after g s (StorePiece z i)) h) (sym same)
-                    (told_piece g v claim take piece released s.send.round i s.send s.recv h a.0 n (omega arith) (omega arith)
-                        (bound_empty g v piece s.send (λ j p l low touch. n.empty j p (omega arith) touch)) t))
+            let is = more.1 in let same = more.2 in
+            let n = next_more g v claim piece s.send s.recv released i r.progress r.gates r.pieces a.0 is in
+            let none : s.send.opened ≡ 0 = elim (cases_lt 0 s.send.opened) [ inl l ↦ let x = r.progress.opens_last l in let y = a.0 in absurd (omega arith) | inr l ↦ omega arith ] in
+            let unshut : s.send.shut ≡ 0 = elim (cases_lt 0 s.send.shut) [ inl l ↦ let x = r.progress.shuts_last l in absurd (omega arith) | inr l ↦ omega arith ] in
+            subst (λ (z : ℕ). Tells g (after g s (StorePiece z i)) h) (sym same)
+            (told_piece g v claim take piece released s.send.round i s.send s.recv h a.0 n (omega arith) (omega arith)
+            (bound_empty g v piece s.send (λ j p l low touch. n.empty j p (omega arith) touch)) t))
             a.3;
         order = λ o. o;
       }
@@ -190,36 +190,39 @@ module _ {A : Type 0} where
       let before = (r.gates.is_past c (omega arith) inside).0 in
       let round = empty_round s.send.round in
       let same : (p : ℕ) → p < g.send_parts → next_round (put claim c w) p ≡ next_round claim p = λ p l.
-          put_at claim c w (λ z. round_in z + bit z (p % 32) ≡ next_round claim p) (p / 32)
-              (λ e. let one = r.gates.all_past p l (omega arith) in let zero_bit = empty_bit s.send.round (p % 32) (omega arith) in
-                  let x : round_in (claim (p / 32)) ≡ round_in (claim c) = ap (λ z. round_in (claim z)) e in omega arith)
-              (λ _. refl) in
+      put_at claim c w (λ z. round_in z + bit z (p % 32) ≡ next_round claim p) (p / 32)
+      (λ e. let one = r.gates.all_past p l (omega arith) in let zero_bit = empty_bit s.send.round (p % 32) (omega arith) in
+      let x : round_in (claim (p / 32)) ≡ round_in (claim c) = ap (λ z. round_in (claim z)) e in omega arith)
+      (λ _. refl) in
       let now = told_claim g claim (put claim c w) take piece released s.send s.recv h same t in
       first_only g (after g s (StoreClaim k c)) h c (entry.Open k)
-          (λ e. record {
-            tells = subst (λ (z : ℕ × ℕ). Told g (put claim c w) take piece released (record s.send { opened = z.0 + 1 }) s.recv (entry.Open z.1 ∷ h)) (λ i. (sym e i, sym a.1 i))
-                (told_opens g (put claim c w) take piece released s.send s.recv h some (omega arith) now);
-            order = λ o. (subst (λ (z : ℕ). Follows g h (entry.Open z)) (sym a.1) (
-              some,
-              not_above h entry.Open _ s.send.round t.opens (omega arith),
-              (λ two. (has_below h entry.Open _ (s.send.round - 1) t.opens (omega arith) (omega arith), has_below h entry.Shut _ (s.send.round - 1) t.shuts (omega arith) (omega arith))),
-              (λ deep. has_below h entry.Release _ (s.send.round - g.depth) t.releases (omega arith) (let x = r.progress.ahead in omega arith)),
-            ), o);
-          })
-          (λ n. record {
-            tells = record {
-              opens = upto_same h entry.Open _ _ (omega arith) now.opens;
-              shuts = now.shuts;
-              listens = now.listens;
-              releases = now.releases;
-              marks = now.marks;
-              lays = now.lays;
-              outs = now.outs;
-              takes = now.takes;
-              within = now.within;
-            };
-            order = λ o. o;
-          })
+      (λ e. record {
+        tells = subst (λ (z : ℕ × ℕ). Told g (put claim c w) take piece released (record s.send { opened = z.0 + 1 }) s.recv (entry.Open z.1 ∷ h)) (λ i. (sym e i, sym a.1 i))
+            (told_opens g (put claim c w) take piece released s.send s.recv h some (omega arith) now);
+        order = λ o. (
+          subst (λ (z : ℕ). Follows g h (entry.Open z)) (sym a.1) (
+            some,
+            not_above h entry.Open _ s.send.round t.opens (omega arith),
+            (λ two. (has_below h entry.Open _ (s.send.round - 1) t.opens (omega arith) (omega arith), has_below h entry.Shut _ (s.send.round - 1) t.shuts (omega arith) (omega arith))),
+            (λ deep. has_below h entry.Release _ (s.send.round - g.depth) t.releases (omega arith) (let x = r.progress.ahead in omega arith)),
+          ),
+          o,
+        );
+      })
+      (λ n. record {
+        tells = record {
+          opens = upto_same h entry.Open _ _ (omega arith) now.opens;
+          shuts = now.shuts;
+          listens = now.listens;
+          releases = now.releases;
+          marks = now.marks;
+          lays = now.lays;
+          outs = now.outs;
+          takes = now.takes;
+          within = now.within;
+        };
+        order = λ o. o;
+      })
 
   pub shuts_claim_adds : (g : Shape) → IsShape g → (s : Core A) (c : ℕ) (h : List Entry) → Sound g s → IsAllowed g s (ShutClaim c) → Tells g s h
       → Adds g (after g s (ShutClaim c)) h (entries g s (ShutClaim c))
@@ -231,41 +234,44 @@ module _ {A : Type 0} where
       let some : 1 ≤ s.send.round = elim (cases_lt 0 s.send.round) [ inl l ↦ l | inr l ↦ let x = r.progress.begun (omega arith) in absurd (omega arith) ] in
       let round : round_in w ≡ round_in (claim c) = round_or (claim c) 32 (omega arith) in
       let same : (p : ℕ) → p < g.send_parts → next_round (put claim c w) p ≡ next_round claim p = λ p _.
-          put_at claim c w (λ z. round_in z + bit z (p % 32) ≡ next_round claim p) (p / 32)
-              (λ e. let b = bit_or_else (claim c) 32 (p % 32) (λ f. omega arith) in
-                  let x : round_in (claim c) + bit (claim c) (p % 32) ≡ next_round claim p = ap (λ z. round_in (claim z) + bit (claim z) (p % 32)) (sym e) in omega arith)
-              (λ _. refl) in
+      put_at claim c w (λ z. round_in z + bit z (p % 32) ≡ next_round claim p) (p / 32)
+      (λ e. let b = bit_or_else (claim c) 32 (p % 32) (λ f. omega arith) in
+      let x : round_in (claim c) + bit (claim c) (p % 32) ≡ next_round claim p = ap (λ z. round_in (claim z) + bit (claim z) (p % 32)) (sym e) in omega arith)
+      (λ _. refl) in
       let now = told_claim g claim (put claim c w) take piece released s.send s.recv h same t in
       first_only g (after g s (ShutClaim c)) h c (entry.Shut s.send.round)
-          (λ e.
-              let unshut : s.send.shut ≡ 0 = omega arith in
-              let full = (may_shut g v s r opened unshut (a.3 e)).1 in
-              record {
-                tells = subst (λ (z : ℕ). Told g (put claim c w) take piece released (record s.send { shut = z + 1 }) s.recv (entry.Shut s.send.round ∷ h)) (sym e)
-                    (told_shuts g (put claim c w) take piece released s.send s.recv h some unshut now);
-                order = λ o. ((
-                  some,
-                  not_above h entry.Shut _ s.send.round t.shuts (omega arith),
-                  has_below h entry.Open _ s.send.round t.opens some (omega arith),
-                  (λ i l.
-                      let f = full_passes g v (piece (s.send.round % g.depth) i) s.send.round i l (record { round = r.pieces.current i (omega arith); all = λ p touch. full i p l touch }) in
-                      let b = stored_is i s.send.pieces s.send.round (one_if (is_full g (piece (s.send.round % g.depth) i) s.send.round i)) (omega arith) in
-                      let one = one_true (is_full g (piece (s.send.round % g.depth) i) s.send.round i) f in
-                      has_below h (λ m. entry.Out m i) _ s.send.round (t.outs i l) some (omega arith)),
-                  (λ two. has_below h entry.Shut _ (s.send.round - 1) t.shuts (omega arith) (omega arith)),
-                ), o);
-              })
-          (λ n. record {
-            tells = record {
-              opens = now.opens;
-              shuts = upto_same h entry.Shut _ _ (omega arith) now.shuts;
-              listens = now.listens;
-              releases = now.releases;
-              marks = now.marks;
-              lays = now.lays;
-              outs = now.outs;
-              takes = now.takes;
-              within = now.within;
-            };
-            order = λ o. o;
-          })
+      (λ e.
+      let unshut : s.send.shut ≡ 0 = omega arith in
+      let full = (may_shut g v s r opened unshut (a.3 e)).1 in
+      record {
+        tells = subst (λ (z : ℕ). Told g (put claim c w) take piece released (record s.send { shut = z + 1 }) s.recv (entry.Shut s.send.round ∷ h)) (sym e)
+            (told_shuts g (put claim c w) take piece released s.send s.recv h some unshut now);
+        order = λ o. (
+          (
+            some,
+            not_above h entry.Shut _ s.send.round t.shuts (omega arith),
+            has_below h entry.Open _ s.send.round t.opens some (omega arith),
+            (λ i l.
+                let f = full_passes g v (piece (s.send.round % g.depth) i) s.send.round i l (record { round = r.pieces.current i (omega arith); all = λ p touch. full i p l touch }) in
+                let b = stored_is i s.send.pieces s.send.round (one_if (is_full g (piece (s.send.round % g.depth) i) s.send.round i)) (omega arith) in
+                let one = one_true (is_full g (piece (s.send.round % g.depth) i) s.send.round i) f in
+                has_below h (λ m. entry.Out m i) _ s.send.round (t.outs i l) some (omega arith)),
+            (λ two. has_below h entry.Shut _ (s.send.round - 1) t.shuts (omega arith) (omega arith)),
+          ),
+          o,
+        );
+      })
+      (λ n. record {
+        tells = record {
+          opens = now.opens;
+          shuts = upto_same h entry.Shut _ _ (omega arith) now.shuts;
+          listens = now.listens;
+          releases = now.releases;
+          marks = now.marks;
+          lays = now.lays;
+          outs = now.outs;
+          takes = now.takes;
+          within = now.within;
+        };
+        order = λ o. o;
+      })

@@ -18,3 +18,11 @@ pub mod Claims
 pub mod LayLists
 pub mod LayGroups
 pub mod Lays
+pub mod StateTables
+pub mod StateNumbers
+pub mod StateSeats
+pub mod StateReads
+pub mod StateBecomes
+pub mod StateFull
+pub mod StateSend
+pub mod StateAdds

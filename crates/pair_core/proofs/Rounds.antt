@@ -45,7 +45,7 @@ last_recent depth (suc k) (suc n) low high some near =
     let e : suc (suc k + n) ≡ suc k + suc n = omega arith in
     let apart = places_apart depth (suc k) (suc (suc k + n)) low high (omega arith) (omega arith) in
     subst (λ (z : ℕ). last_round depth z (suc k % depth) ≡ suc k) e
-        (last_step depth (suc k + n) (suc k % depth) apart ∙ last_recent depth (suc k) n low high some (omega arith))
+    (last_step depth (suc k + n) (suc k % depth) apart ∙ last_recent depth (suc k) n low high some (omega arith))
 
 -- before the depth is reached no round has the place of the next one
 none_before : (depth k n : ℕ) → 1 ≤ depth → depth ≤ 4 → k < depth → n ≤ k → last_round depth n (suc k % depth) ≡ 0
@@ -66,5 +66,5 @@ last_oldest depth k low high = elim (cases_lt k depth) [
       let e : back + (depth - 1) ≡ k = omega arith in
       let place : back % depth ≡ suc k % depth = each_depth depth (λ n. n ≤ suc k → (suc k - n) % n ≡ suc k % n) low high (λ h. omega arith) (λ h. omega arith) (λ h. omega arith) (λ h. omega arith) (omega arith) in
       subst (λ (z : ℕ). last_round depth k z ≡ back) place
-          (subst (λ (z : ℕ). last_round depth z (back % depth) ≡ back) e (last_recent depth back (depth - 1) low high (omega arith) (omega arith)))
+      (subst (λ (z : ℕ). last_round depth z (back % depth) ≡ back) e (last_recent depth back (depth - 1) low high (omega arith) (omega arith)))
 ]

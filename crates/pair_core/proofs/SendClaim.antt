@@ -129,9 +129,9 @@ module _ {A : Type 0} where
         slots = slots_opens g claim take ret piece s.send s.recv s.slot r.who c w is clean r.slots;
         marks = marks_same g claim (put claim c w) s.life s.marks r.who
             (λ p l. put_at claim c w (λ z. round_in z + bit z (p % 32) ≡ next_round claim p) (p / 32)
-                (λ e. let one = r.gates.all_past p l (omega arith) in let zero_bit = clean (p % 32) (omega arith) in
-                    let same : round_in (claim (p / 32)) ≡ round_in (claim c) = ap (λ z. round_in (claim z)) e in omega arith)
-                (λ _. refl)) r.marks;
+            (λ e. let one = r.gates.all_past p l (omega arith) in let zero_bit = clean (p % 32) (omega arith) in
+            let same : round_in (claim (p / 32)) ≡ round_in (claim c) = ap (λ z. round_in (claim z)) e in omega arith)
+            (λ _. refl)) r.marks;
         takes = r.takes;
         unused = unused_empty g s.word (Claim c) s.send.round r.unused;
         seen = sees g s.word s.life s.seen 0 (Claim c) w r.seen (λ _. later_newer (claim c) w (omega arith));
@@ -183,10 +183,10 @@ module _ {A : Type 0} where
       let round : round_in w ≡ round_in (claim c) = round_or (claim c) 32 (omega arith) in
       let low_bits : (j : ℕ) → j < 32 → bit w j ≡ bit (claim c) j = λ j l. bit_or_else (claim c) 32 j (λ e. omega arith) in
       let same_bit : (p : ℕ) → part_bit (put claim c w) p ≡ part_bit claim p = λ p. put_at claim c w (λ z. bit z (p % 32) ≡ part_bit claim p) (p / 32)
-          (λ e. low_bits (p % 32) (omega arith) ∙ ap (λ z. bit (claim z) (p % 32)) (sym e)) (λ _. refl) in
+      (λ e. low_bits (p % 32) (omega arith) ∙ ap (λ z. bit (claim z) (p % 32)) (sym e)) (λ _. refl) in
       let same_next : (p : ℕ) → next_round (put claim c w) p ≡ next_round claim p = λ p. put_at claim c w (λ z. round_in z + bit z (p % 32) ≡ next_round claim p) (p / 32)
-          (λ e. let b = low_bits (p % 32) (omega arith) in let x : round_in (claim c) + bit (claim c) (p % 32) ≡ next_round claim p = ap (λ z. round_in (claim z) + bit (claim z) (p % 32)) (sym e) in omega arith)
-          (λ _. refl) in
+      (λ e. let b = low_bits (p % 32) (omega arith) in let x : round_in (claim c) + bit (claim c) (p % 32) ≡ next_round claim p = ap (λ z. round_in (claim z) + bit (claim z) (p % 32)) (sym e) in omega arith)
+      (λ _. refl) in
       let claimed : (p : ℕ) → p < g.send_parts → part_bit claim p ≡ 1 = λ p l. elim (cases_lt 0 s.send.shut) [
         | inl some ↦ r.gates.all_ended p l some
         | inr none ↦ (may_shut g v s r whole (omega arith) (a.3 (omega arith))).0 p l

@@ -35,9 +35,9 @@ pub ended_full : (g : Shape) (claim : ℕ → ℕ) (piece : ℕ → ℕ → ℕ)
     → (d i : ℕ) → d < g.depth → i < pieces g → IsFull g (piece d i) (last_round g.depth send.round d) i
 ended_full g claim piece send over whole r d i place inside = elim (cases_eq d (send.round % g.depth)) [
   | inl e ↦ subst (λ (z : ℕ). IsFull g (piece z i) (last_round g.depth send.round z) i) (sym e) (record {
-      round = r.current i (omega arith) ∙ sym (last_now g.depth send.round);
-      all = λ p t. r.ended i p inside over t;
-    })
+    round = r.current i (omega arith) ∙ sym (last_now g.depth send.round);
+    all = λ p t. r.ended i p inside over t;
+  })
   | inr other ↦ r.other d i place inside other
 ]
 
@@ -46,9 +46,9 @@ pub round_le : (g : Shape) (claim : ℕ → ℕ) (piece : ℕ → ℕ → ℕ) (
     → (d i : ℕ) → d < g.depth → i < pieces g → round_in (piece d i) ≤ send.round
 round_le g claim piece send r d i place inside = elim (cases_eq d (send.round % g.depth)) [
   | inl e ↦ subst (λ (z : ℕ). round_in (piece z i) ≤ send.round) (sym e) (elim (cases_lt i send.pieces) [
-      | inl stored ↦ let h = r.current i stored in omega arith
-      | inr not_stored ↦ let h = (r.waiting i (omega arith) inside).round in omega arith
-    ])
+    | inl stored ↦ let h = r.current i stored in omega arith
+    | inr not_stored ↦ let h = (r.waiting i (omega arith) inside).round in omega arith
+  ])
   | inr other ↦ let h = (r.other d i place inside other).round in let l = last_le g.depth send.round d in omega arith
 ]
 
@@ -79,9 +79,9 @@ next_first g v claim piece send recv released seen k pr ga pi idle is saw room s
     let e : k ≡ suc send.round = omega arith in
     let place : k % g.depth < g.depth = place_lt g.depth k d1 d4 in
     let oldest : (j : ℕ) → j < pieces g → IsFull g (piece (k % g.depth) j) (k - g.depth) j = λ j h.
-        subst (λ (z : ℕ). IsFull g (piece (z % g.depth) j) (z - g.depth) j) (sym e)
-            (subst (λ (z : ℕ). IsFull g (piece (suc send.round % g.depth) j) z j) (last_oldest g.depth send.round d1 d4)
-                (full (suc send.round % g.depth) j (place_lt g.depth (suc send.round) d1 d4) h)) in
+    subst (λ (z : ℕ). IsFull g (piece (z % g.depth) j) (z - g.depth) j) (sym e)
+    (subst (λ (z : ℕ). IsFull g (piece (suc send.round % g.depth) j) z j) (last_oldest g.depth send.round d1 d4)
+    (full (suc send.round % g.depth) j (place_lt g.depth (suc send.round) d1 d4) h)) in
     record {
       some = omega arith;
       room = omega arith;
@@ -127,20 +127,21 @@ next_more g v claim piece send recv released i pr ga pi inside is =
 -- what the send side has seen lets it shut: all is claimed and full
 pub may_shut : {A : Type 0} (g : Shape) → IsShape g → (s : Core A) → Sound g s → s.send.opened ≡ claim_words g → s.send.shut ≡ 0 → MayShut g (s.seen 0) s.send.round
     → ((p : ℕ) → p < g.send_parts → part_bit (λ c. s.word (Claim c)) p ≡ 1)
-      × ((i p : ℕ) → i < pieces g → Touches g i p → laid g (s.word (Piece (s.send.round % g.depth) i)) i p ≡ 1)
+    × ((i p : ℕ) → i < pieces g → Touches g i p → laid g (s.word (Piece (s.send.round % g.depth) i)) i p ≡ 1)
 may_shut {A} g v s r opened unshut may =
     let live = live_unspent (s.life 0) r.lives.send in let words = some_claims g v in
-    let whole : s.send.pieces ≡ pieces g = r.progress.opens_last (omega arith) in
-    ((λ p h.
-        let c : ℕ = p / 32 in let saw = may.claimed p h in
-        let now = (r.gates.is_open c (omega arith) (omega arith)).0 in
-        let l = r.seen 0 (Claim c) live (claim_word g p h) in
-        let b = later_bit (s.seen 0 (Claim c)) (s.word (Claim c)) l (saw.0 ∙ sym now) (p % 32) (omega arith) in
-        let one = saw.1 in let small = bit_lt (s.word (Claim c)) (p % 32) in omega arith),
-     (λ i p h t.
-        let d : ℕ = s.send.round % g.depth in let saw = may.full i h in
-        let now = r.pieces.current i (omega arith) in
-        let l = r.seen 0 (Piece d i) live (place_lt g.depth s.send.round v.depth.0 v.depth.1, h) in
-        let j = bit_small g v i p h t in
-        let b = later_bit (s.seen 0 (Piece d i)) (s.word (Piece d i)) l (saw.round ∙ sym now) (p - first_part g i) (omega arith) in
-        let one = saw.all p t in let small = bit_lt (s.word (Piece d i)) (p - first_part g i) in omega arith))
+    let whole : s.send.pieces ≡ pieces g = r.progress.opens_last (omega arith) in (
+      (λ p h.
+          let c : ℕ = p / 32 in let saw = may.claimed p h in
+          let now = (r.gates.is_open c (omega arith) (omega arith)).0 in
+          let l = r.seen 0 (Claim c) live (claim_word g p h) in
+          let b = later_bit (s.seen 0 (Claim c)) (s.word (Claim c)) l (saw.0 ∙ sym now) (p % 32) (omega arith) in
+          let one = saw.1 in let small = bit_lt (s.word (Claim c)) (p % 32) in omega arith),
+      (λ i p h t.
+          let d : ℕ = s.send.round % g.depth in let saw = may.full i h in
+          let now = r.pieces.current i (omega arith) in
+          let l = r.seen 0 (Piece d i) live (place_lt g.depth s.send.round v.depth.0 v.depth.1, h) in
+          let j = bit_small g v i p h t in
+          let b = later_bit (s.seen 0 (Piece d i)) (s.word (Piece d i)) l (saw.round ∙ sym now) (p - first_part g i) (omega arith) in
+          let one = saw.all p t in let small = bit_lt (s.word (Piece d i)) (p - first_part g i) in omega arith),
+    )

@@ -83,10 +83,10 @@ arrived_piece : (g : Shape) → IsShape g → (claim take : ℕ → ℕ) (piece 
 arrived_piece g v claim take piece send recv released k i current n h q j a b act taken t =
     let f = h q j a b act taken t in
     put_pair_at piece (k % g.depth) i (empty k) (λ z. IsFull g z recv.round j) (recv.round % g.depth) j
-        (λ e same. let round = f.round in let older = n.older in let room = n.room in let active = act.1 in let low = v.depth.0 in
-            let is : round_in (piece (recv.round % g.depth) j) ≡ round_in (piece (k % g.depth) i) = ap (λ (z : ℕ × ℕ). round_in (piece z.0 z.1)) (λ x. (e x, same x)) in
-            absurd (omega arith))
-        (λ _. f)
+    (λ e same. let round = f.round in let older = n.older in let room = n.room in let active = act.1 in let low = v.depth.0 in
+    let is : round_in (piece (recv.round % g.depth) j) ≡ round_in (piece (k % g.depth) i) = ap (λ (z : ℕ × ℕ). round_in (piece z.0 z.1)) (λ x. (e x, same x)) in
+    absurd (omega arith))
+    (λ _. f)
 
 claims_piece : (g : Shape) (claim : ℕ → ℕ) (piece : ℕ → ℕ → ℕ) (send : SendSide) (life : ℕ → Life) (pending : ℕ → Option Pending) (who : ℕ → ℕ → ℕ) (released k i : ℕ)
     → IsNext g claim piece send released k i → Claims g claim piece send life pending who → Claims g claim (with_piece g piece k i) (stored k i send) life pending who
@@ -103,8 +103,8 @@ slots_piece g v claim take ret piece send recv slot who released k i n h = recor
   home = λ d c a b _ held. h.home d c a b (λ both. n.unclaimed (send_of g c) both.1.0) held;
   tied = λ d c j a b at.
       put_pair_at piece (k % g.depth) i (empty k) (λ z. laid g z (piece_of g c) (send_of g c) ≡ 1 → next_round ret (recv_of g c) ≤ round_in z → j ≡ round_in z) d (piece_of g c)
-          (λ _ e one. let z = no_part g v k (piece_of g c) (send_of g c) (cell_piece g c b) (cell_touches g c b) in absurd (omega arith))
-          (λ _. h.tied d c j a b at);
+      (λ _ e one. let z = no_part g v k (piece_of g c) (send_of g c) (cell_piece g c b) (cell_touches g c b) in absurd (omega arith))
+      (λ _. h.tied d c j a b at);
 }
 
 takes_piece : {A : Type 0} (g : Shape) → IsShape g → (claim take : ℕ → ℕ) (piece : ℕ → ℕ → ℕ) (send : SendSide) (takes : List (Mark A)) (released k i : ℕ)
@@ -114,11 +114,11 @@ takes_piece {A} g v claim take piece send takes released k i n h = record {
   all = h.all;
   out = λ m q j p has a b t. let old = h.out m q j p has a b t in
       put_pair_at piece (k % g.depth) i (empty k) (λ z. m < round_in z + laid g z j p) (m % g.depth) j
-          (λ e same. let now = empty_round k in let older = n.older in let some = n.some in let low = v.depth.0 in
-              let small = bit_lt (piece (m % g.depth) j) (p - first_part g j) in
-              let is : round_in (piece (m % g.depth) j) ≡ round_in (piece (k % g.depth) i) = ap (λ (z : ℕ × ℕ). round_in (piece z.0 z.1)) (λ x. (e x, same x)) in
-              omega arith)
-          (λ _. old);
+      (λ e same. let now = empty_round k in let older = n.older in let some = n.some in let low = v.depth.0 in
+      let small = bit_lt (piece (m % g.depth) j) (p - first_part g j) in
+      let is : round_in (piece (m % g.depth) j) ≡ round_in (piece (k % g.depth) i) = ap (λ (z : ℕ × ℕ). round_in (piece z.0 z.1)) (λ x. (e x, same x)) in
+      omega arith)
+      (λ _. old);
 }
 
 module _ {A : Type 0} where
@@ -151,8 +151,8 @@ module _ {A : Type 0} where
       let claim : ℕ → ℕ = λ c. s.word (Claim c) in let piece : ℕ → ℕ → ℕ = λ d j. s.word (Piece d j) in let released : ℕ = round_in (s.word Release) in
       let saw = seen_release g s 0 r (live_unspent (s.life 0) r.lives.send) in
       ⊎_elim
-          (λ first. keeps g v s k i a.0 r (subst (IsNext g claim piece s.send released k) (sym first.0)
-              (next_first g v claim piece s.send s.recv released (round_in (s.seen 0 Release)) k r.progress r.gates r.pieces first.1 first.2 saw a.2 (let x = a.0 in omega arith))))
-          (λ more. keeps g v s k i a.0 r (subst (λ (z : ℕ). IsNext g claim piece s.send released z i) (sym more.2)
-              (next_more g v claim piece s.send s.recv released i r.progress r.gates r.pieces a.0 more.1)))
-          a.3
+      (λ first. keeps g v s k i a.0 r (subst (IsNext g claim piece s.send released k) (sym first.0)
+      (next_first g v claim piece s.send s.recv released (round_in (s.seen 0 Release)) k r.progress r.gates r.pieces first.1 first.2 saw a.2 (let x = a.0 in omega arith))))
+      (λ more. keeps g v s k i a.0 r (subst (λ (z : ℕ). IsNext g claim piece s.send released z i) (sym more.2)
+      (next_more g v claim piece s.send s.recv released i r.progress r.gates r.pieces a.0 more.1)))
+      a.3

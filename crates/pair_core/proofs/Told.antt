@@ -60,7 +60,7 @@ Tells {A} g s h = Told g (λ c. s.word (Claim c)) (λ t. s.word (Take t)) (λ d 
 pub upto_skip : (h : List Entry) (e : Entry) (sort : ℕ → Entry) (b : ℕ) → ((k : ℕ) → e ≢ sort k) → Upto h sort b → Upto (e ∷ h) sort b
 upto_skip h e sort b other u k = (
   (λ has. ⊎_elim (λ same. absurd (other k same)) (λ old. (u k).0 old) has),
-  (λ low. inr ((u k).1 low))
+  (λ low. inr ((u k).1 low)),
 )
 
 -- the entry of the next round
@@ -70,7 +70,7 @@ upto_add h sort b some same u k = (
   (λ low. elim (cases_eq k b) [
     | inl e ↦ inl (ap sort (sym e))
     | inr other ↦ inr ((u k).1 (low.0, let x = low.1 in omega arith))
-  ])
+  ]),
 )
 
 -- a bound that is the same number

@@ -6,3 +6,6 @@ pub mod Steps
 pub mod Moves
 pub mod Sound
 pub mod History
+pub mod Events
+pub mod State
+pub mod Shows

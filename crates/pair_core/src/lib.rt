@@ -1,4 +1,16 @@
 //! The core of a pair that many threads use: its state as plain data, and the atomic steps that change it.
 #![tactic(auto)]
 
+mod bits;
+mod event;
+mod first;
+mod looking;
+mod recv;
+mod seat;
+mod send;
+mod state;
+mod tables;
 pub mod view;
+
+pub use event::{Applied, Event};
+pub use state::CoreState;
