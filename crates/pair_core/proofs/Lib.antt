@@ -26,3 +26,5 @@ pub mod StateBecomes
 pub mod StateFull
 pub mod StateSend
 pub mod StateAdds
+pub mod StateSlots
+pub mod StateClaim

@@ -1,6 +1,6 @@
 -- The seats that a state keeps, where one of them changed.
 use Rattle.std.proofs.Common.{◌≡◌, ◌≢◌, ◌⊎◌, inl, inr, ℕ, zero, suc, ◌+◌, ◌-◌, ◌^◌, ◌<◌, ◌≤◌, min, List, [], ◌∷◌, length, get_or, Option, Some, None, refl, sym, ap, ◌∙◌, subst, arith}
-use Rattle.std.specs.Prelude.{slice_set, slice_get}
+use Rattle.std.specs.Prelude.{slice_set, slice_get, Result, Ok, Err, IfOk, IfErr}
 use Rattle.std.proofs.lemmas.List.{get_or-set_same, get_or-set_other}
 use Rattle.std.proofs.lemmas.Option.{slice_get_within, get_or_from_slice_get, slice_get-get_or, slice_get_read}
 use Rattle.std.proofs.Math.ListN.{length-set}
@@ -12,6 +12,8 @@ use Rattle.pair_core.specs.Core.{Core}
 use Rattle.pair_core.specs.Steps.{saw}
 use Rattle.pair_core.specs.State.{IsKept, IsAt, IsView, IsBlank, Plain, Stands, ListsWords, ListsLooks, word_count}
 use Rattle.pair_core.specs.declared.view.SendSide.{SendSide}
+use Rattle.pair_core.specs.declared.view.Mark.{Mark}
+use Rattle.pair_core.specs.declared.view.Pending.{Pending}
 use Rattle.pair_core.specs.declared.view.RecvSide.{RecvSide}
 use Rattle.pair_core.specs.declared.seat.Seat.{Seat}
 use Rattle.pair_core.specs.declared.seat.Spot.{Spot}
@@ -181,3 +183,48 @@ recv_at g words slots send recv seats kept = second seats kept.two kept.recv_sea
     second [] two own = absurd (omega arith)
     second (u ∷ []) two own = absurd (omega arith)
     second (u ∷ v ∷ vs) two own = (v, refl, own v refl)
+
+-- another claim of a seat pends, or it marked one more
+pub pends_else : (n : ℕ) (x : Option Pending) (s : Core Plain) (m : ℕ) → m ≢ n → SameAt m s (record s { pending = put s.pending n x })
+pends_else n x s m other = record { life = refl; seen = refl; looks = refl; pending = put_else s.pending n x m other; marks = refl }
+
+pub pends_here : (g : Shape) (old new : Seat) (x : Option Pending) (s : Core Plain) → IsView g old s → new.seat ≡ old.seat → new.seen ≡ old.seen → new.looks ≡ old.looks → new.pending ≡ x → new.marks ≡ old.marks
+    → IsView g new (record s { pending = put s.pending old.seat x })
+pends_here g old new x s view seat seen looks pending marks = record {
+  live = ap s.life seat ∙ view.live;
+  seen = λ y fits. ap (λ v. get_or v.items (number g y) 0) seen ∙ (view.seen y fits ∙ ap (λ (z : ℕ). s.seen z y) (sym seat));
+  looks = λ y fits. ap (λ v. get_or v.items (number g y) 0) looks ∙ (view.looks y fits ∙ ap (λ (z : ℕ). min (s.looks z y) (2 ^ 64 - 1)) (sym seat));
+  pending = pending ∙ sym (ap (put s.pending old.seat x) seat ∙ put_here s.pending old.seat x);
+  marks = marks ∙ (view.marks ∙ ap s.marks (sym seat));
+}
+
+pub marked_else : (n : ℕ) (l : List (Mark Plain)) (s : Core Plain) (m : ℕ) → m ≢ n → SameAt m s (record s { marks = put s.marks n l })
+marked_else n l s m other = record { life = refl; seen = refl; looks = refl; pending = refl; marks = put_else s.marks n l m other }
+
+pub marked_here : (g : Shape) (old new : Seat) (l : List (Mark Plain)) (s : Core Plain) → IsView g old s → new.seat ≡ old.seat → new.seen ≡ old.seen → new.looks ≡ old.looks → new.pending ≡ old.pending → new.marks ≡ l
+    → IsView g new (record s { marks = put s.marks old.seat l })
+marked_here g old new l s view seat seen looks pending marks = record {
+  live = ap s.life seat ∙ view.live;
+  seen = λ y fits. ap (λ v. get_or v.items (number g y) 0) seen ∙ (view.seen y fits ∙ ap (λ (z : ℕ). s.seen z y) (sym seat));
+  looks = λ y fits. ap (λ v. get_or v.items (number g y) 0) looks ∙ (view.looks y fits ∙ ap (λ (z : ℕ). min (s.looks z y) (2 ^ 64 - 1)) (sym seat));
+  pending = pending ∙ (view.pending ∙ ap s.pending (sym seat));
+  marks = marks ∙ sym (ap (put s.marks old.seat l) seat ∙ put_here s.marks old.seat l);
+}
+
+-- a seat of which all parts are as they were
+pub view_equal : (g : Shape) (old new : Seat) (s : Core Plain) → IsView g old s → new.seat ≡ old.seat → new.seen ≡ old.seen → new.looks ≡ old.looks → new.pending ≡ old.pending → new.marks ≡ old.marks → IsView g new s
+view_equal g old new s view seat seen looks pending marks = record {
+  live = ap s.life seat ∙ view.live;
+  seen = λ y fits. ap (λ v. get_or v.items (number g y) 0) seen ∙ (view.seen y fits ∙ ap (λ (z : ℕ). s.seen z y) (sym seat));
+  looks = λ y fits. ap (λ v. get_or v.items (number g y) 0) looks ∙ (view.looks y fits ∙ ap (λ (z : ℕ). min (s.looks z y) (2 ^ 64 - 1)) (sym seat));
+  pending = pending ∙ (view.pending ∙ ap s.pending (sym seat));
+  marks = marks ∙ (view.marks ∙ ap s.marks (sym seat));
+}
+
+pub ok_map : {A E : Type 0} (r : Result A E) (P Q : A → Type 0) → ((x : A) → P x → Q x) → IfOk r P → IfOk r Q
+ok_map {A} {E} (Ok x) P Q f p = f x p
+ok_map {A} {E} (Err e) P Q f p = p
+
+pub err_map : {A E : Type 0} (r : Result A E) (P Q : E → Type 0) → ((x : E) → P x → Q x) → IfErr r P → IfErr r Q
+err_map {A} {E} (Ok x) P Q f p = p
+err_map {A} {E} (Err e) P Q f p = f e p

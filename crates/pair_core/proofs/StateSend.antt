@@ -1,13 +1,15 @@
 -- The sides as they stand after their steps.
-use Rattle.std.proofs.Common.{◌≡◌, ◌⊎◌, ◌∙◌, ℕ, ◌+◌, ◌%◌, ◌<◌, ◌≤◌, ◌^◌, bit_or, sym, ap, subst}
+use Rattle.std.proofs.Common.{◌≡◌, ◌⊎◌, ◌∙◌, ℕ, ◌+◌, ◌%◌, ◌<◌, ◌≤◌, ◌^◌, ◌/◌, ◌==◌, ◌∷◌, bit_or, sym, ap, subst}
 use Rattle.part_geometry.specs.Shape.{Shape}
 use Rattle.part_geometry.specs.Pieces.{pieces}
 use Rattle.gate_word.specs.Words.{round_in}
 use Rattle.pair_core.specs.Words.{empty}
 use Rattle.pair_core.specs.Names.{Name, Claim, Release, Take, Return, Piece, claim_words, take_words}
-use Rattle.pair_core.specs.Core.{Core}
-use Rattle.pair_core.specs.Moves.{IsAllowed, StorePiece, StoreClaim, StoreReturn, StoreTake, ShutClaim, MayShut, last_round_number}
-use Rattle.pair_core.specs.Steps.{wrote, stores_piece, stores_claim, stores_return, stores_take, shuts_claim}
+use Rattle.pair_core.specs.Core.{Core, Home, Out}
+use Rattle.part_geometry.specs.Cells.{recv_of}
+use Rattle.pair_core.specs.Moves.{IsAllowed, StorePiece, StoreClaim, StoreReturn, StoreTake, ShutClaim, StoreRelease, TakePart, ReturnPart, MayShut, AreSeen, last_round_number}
+use Rattle.pair_core.specs.Reading.{part_bit}
+use Rattle.pair_core.specs.Steps.{wrote, stores_piece, stores_claim, stores_return, stores_take, shuts_claim, releases, mark, put_slots, takes_part, returns_part}
 use Rattle.pair_core.specs.State.{Plain}
 use Rattle.pair_core.specs.declared.view.SendSide.{SendSide}
 use Rattle.pair_core.specs.declared.view.RecvSide.{RecvSide}
@@ -63,3 +65,37 @@ pub shut_shown : (Shown : Core Plain → Type 0) (s : Core Plain) (d : SendSide)
 shut_shown Shown s d c v w e was is shown =
     subst (λ (d : SendSide). Shown (record (wrote 0 (Claim c) (bit_or (s.word (Claim c)) (2 ^ 32)) s) { send = record d { shut = c + 1 } })) e
     (subst (λ (z : ℕ). Shown (record (wrote 0 (Claim c) z s) { send = record d { shut = c + 1 } })) (is ∙ ap (λ (z : ℕ). bit_or z (2 ^ 32)) was) shown)
+
+pub release_allowed : (g : Shape) (s : Core Plain) (d : RecvSide) (k : ℕ) → d ≡ s.recv → k ≡ d.round → (d.takes ≡ take_words g) × (d.released ≡ 0)
+    → ((q : ℕ) → q < g.recv_parts → (part_bit (λ t. s.word (Take t)) q ≡ 1) × (part_bit (λ t. s.word (Return t)) q ≡ 1)) → IsAllowed g s (StoreRelease k)
+release_allowed g s d k e now active back =
+    (now ∙ ap (λ (z : RecvSide). z.round) e, subst (λ (z : RecvSide). (z.takes ≡ take_words g) × (z.released ≡ 0)) e active, back)
+
+pub release_shown : (Shown : Core Plain → Type 0) (s : Core Plain) (d : RecvSide) (k w : ℕ) → d ≡ s.recv → w ≡ empty k → k ≡ d.round
+    → Shown (record (wrote 1 Release w s) { recv = record d { released = 1 } }) → Shown (releases s)
+release_shown Shown s d k w e is now shown =
+    subst (λ (d : RecvSide). Shown (record (wrote 1 Release (empty s.recv.round) s) { recv = record d { released = 1 } })) e
+    (subst (λ (z : ℕ). Shown (record (wrote 1 Release z s) { recv = record d { released = 1 } })) (is ∙ ap empty (now ∙ ap (λ (z : RecvSide). z.round) e)) shown)
+
+pub taken_allowed : (g : Shape) (s : Core Plain) (d : RecvSide) (q : ℕ) → d ≡ s.recv → q < g.recv_parts → (d.takes ≡ take_words g) × (d.released ≡ 0) → part_bit (λ t. s.word (Take t)) q ≡ 0
+    → AreSeen g (s.seen 1) d.round q → IsAllowed g s (TakePart q tt)
+taken_allowed g s d q e low active free seen =
+    (low, subst (λ (z : RecvSide). (z.takes ≡ take_words g) × (z.released ≡ 0)) e active, free, subst (λ (z : RecvSide). AreSeen g (s.seen 1) z.round q) e seen)
+
+pub taken_shown : (g : Shape) (Shown : Core Plain → Type 0) (s : Core Plain) (d : RecvSide) (place q v w : ℕ) → d ≡ s.recv → place ≡ d.round % g.depth → v ≡ s.word (Take (q / 32)) → w ≡ bit_or v (2 ^ (q % 32))
+    → Shown (wrote 1 (Take (q / 32)) w (record s { slot = put_slots s.slot place (λ c. recv_of g c == q) (Out 1); takes = mark d.round q tt ∷ s.takes })) → Shown (takes_part g q tt s)
+taken_shown g Shown s d place q v w e there was is shown =
+    subst (λ (d : RecvSide). Shown (wrote 1 (Take (q / 32)) (bit_or (s.word (Take (q / 32))) (2 ^ (q % 32))) (record s { slot = put_slots s.slot (d.round % g.depth) (λ c. recv_of g c == q) (Out 1); takes = mark d.round q tt ∷ s.takes }))) e
+    (subst (λ (z : ℕ). Shown (wrote 1 (Take (q / 32)) (bit_or (s.word (Take (q / 32))) (2 ^ (q % 32))) (record s { slot = put_slots s.slot z (λ c. recv_of g c == q) (Out 1); takes = mark d.round q tt ∷ s.takes }))) there
+    (subst (λ (z : ℕ). Shown (wrote 1 (Take (q / 32)) z (record s { slot = put_slots s.slot place (λ c. recv_of g c == q) (Out 1); takes = mark d.round q tt ∷ s.takes }))) (is ∙ ap (λ (z : ℕ). bit_or z (2 ^ (q % 32))) was) shown))
+
+pub back_allowed : (g : Shape) (s : Core Plain) (d : RecvSide) (q : ℕ) → d ≡ s.recv → q < g.recv_parts → (d.takes ≡ take_words g) × (d.released ≡ 0) → part_bit (λ t. s.word (Take t)) q ≡ 1
+    → part_bit (λ t. s.word (Return t)) q ≡ 0 → IsAllowed g s (ReturnPart q)
+back_allowed g s d q e low active taken free = (low, subst (λ (z : RecvSide). (z.takes ≡ take_words g) × (z.released ≡ 0)) e active, taken, free)
+
+pub back_shown : (g : Shape) (Shown : Core Plain → Type 0) (s : Core Plain) (d : RecvSide) (place q v w : ℕ) → d ≡ s.recv → place ≡ d.round % g.depth → v ≡ s.word (Return (q / 32)) → w ≡ bit_or v (2 ^ (q % 32))
+    → Shown (wrote 1 (Return (q / 32)) w (record s { slot = put_slots s.slot place (λ c. recv_of g c == q) (Home d.round) })) → Shown (returns_part g q s)
+back_shown g Shown s d place q v w e there was is shown =
+    subst (λ (d : RecvSide). Shown (wrote 1 (Return (q / 32)) (bit_or (s.word (Return (q / 32))) (2 ^ (q % 32))) (record s { slot = put_slots s.slot (d.round % g.depth) (λ c. recv_of g c == q) (Home d.round) }))) e
+    (subst (λ (z : ℕ). Shown (wrote 1 (Return (q / 32)) (bit_or (s.word (Return (q / 32))) (2 ^ (q % 32))) (record s { slot = put_slots s.slot z (λ c. recv_of g c == q) (Home d.round) }))) there
+    (subst (λ (z : ℕ). Shown (wrote 1 (Return (q / 32)) z (record s { slot = put_slots s.slot place (λ c. recv_of g c == q) (Home d.round) }))) (is ∙ ap (λ (z : ℕ). bit_or z (2 ^ (q % 32))) was) shown))

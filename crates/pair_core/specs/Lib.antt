@@ -9,3 +9,4 @@ pub mod History
 pub mod Events
 pub mod State
 pub mod Shows
+pub mod Picks

@@ -47,7 +47,7 @@ pub enum Applied {
 }
 
 impl Applied {
-    ghost use Rattle.std.specs.Prelude.{◌≡◌};
+    ghost use Rattle.std.specs.Prelude.{◌≡◌, Some, None};
     ghost use Rattle.pair_core.specs.Events.{quiet};
 
     /// It was made, and nothing went out or was taken.
@@ -57,6 +57,16 @@ impl Applied {
         Applied::Done {
             out: None,
             take: None,
+        }
+    }
+
+    /// It was made, and a receive partition was taken by it.
+    pub(crate) fn taking(round: u32, partition: u32) -> Applied
+        ensures { result ≡ Applied.Done None (Some (round, partition)) }
+    {
+        Applied::Done {
+            out: None,
+            take: Some((round, partition)),
         }
     }
 }

@@ -2,6 +2,7 @@
 #![tactic(auto)]
 
 mod bits;
+mod claim;
 mod event;
 mod first;
 mod looking;
@@ -10,6 +11,7 @@ mod seat;
 mod send;
 mod state;
 mod tables;
+mod take;
 pub mod view;
 
 pub use event::{Applied, Event};

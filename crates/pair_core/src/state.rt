@@ -1,14 +1,14 @@
 //! The state of a pair as plain data: what it reads, and the changes that the steps are made of.
 
-ghost use Rattle.std.specs.Prelude.{◌≡◌, ◌≢◌, ℕ, ◌+◌, ◌-◌, ◌*◌, ◌<◌, ◌≤◌, ◌^◌, Some, length, slice_get, IfSome, IfNone, IfOk, IfErr};
-ghost use Rattle.pair_core.specs.Names.{Name, Fits, number, put_word};
+ghost use Rattle.std.specs.Prelude.{◌≡◌, ◌↔◌, IsTrue, None, ◌∷◌, ◌≢◌, ℕ, ◌+◌, ◌-◌, ◌*◌, ◌<◌, ◌≤◌, ◌^◌, Some, length, slice_get, IfSome, IfNone, IfOk, IfErr};
+ghost use Rattle.pair_core.specs.Names.{Name, Fits, number, put, put_word};
 ghost use Rattle.pair_core.specs.Core.{Core};
-ghost use Rattle.pair_core.specs.State.{IsFresh, IsKept, IsAt, Plain, word_count};
+ghost use Rattle.pair_core.specs.State.{slot_of, IsFresh, IsKept, IsAt, Plain, word_count};
 
 use crate::first::first_words;
-use crate::seat::{Seat, Spot};
+use crate::seat::{Pick, Seat, Spot, fill};
 use crate::tables::Tables;
-use crate::view::{Mark, RecvSide, SendSide};
+use crate::view::{Mark, Pending, RecvSide, SendSide};
 use std::alloc::{AllocError, Global};
 use std::collections::LinkedList;
 
@@ -28,7 +28,8 @@ pub struct CoreState {
 
 impl CoreState {
     ghost use Rattle.pair_core.specs.Shows.{Shows};
-    ghost use Rattle.pair_core.specs.Steps.{enters, loads, saw, wrote};
+    ghost use Rattle.pair_core.specs.Picks.{picked};
+    ghost use Rattle.pair_core.specs.Steps.{enters, loads, mark, put_slots, saw, wrote};
 
     /// The word with a number.
     pub(crate) fn word(&self, index: usize) -> u64
@@ -50,6 +51,7 @@ impl CoreState {
     /// Where a seat stands in the list of those that were met.
     pub(crate) fn find(&self, seat: u32) -> Option<usize>
         ensures some { IfSome result (λ at. IsAt self.now.seats.items at seat) }
+        ensures inside { IfSome result (λ at. at < length self.now.seats.items) }
         ensures none { IfNone result ((at : ℕ) (v : Seat) → slice_get self.now.seats.items at ≡ Some v → v.seat ≢ seat) }
     {
         for (at, known) in self.seats.iter().enumerate() {
@@ -133,6 +135,75 @@ impl CoreState {
         ensures shows { (core : Core Plain) → Shows self.old core → Shows self.new (record core { recv = recv }) }
     {
         self.recv = recv;
+    }
+
+    /// The slots of some cells at a place become `spot`.
+    pub(crate) fn put_slots(&mut self, place: usize, pick: Pick, spot: Spot)
+        requires { place < self.old.tables.depth }
+        ensures tables { self.new.tables ≡ self.old.tables }
+        ensures send { self.new.send ≡ self.old.send }
+        ensures recv { self.new.recv ≡ self.old.recv }
+        ensures seats { self.new.seats.items ≡ self.old.seats.items }
+        ensures shows { (core : Core Plain) → Shows self.old core → Shows self.new (record core { slot = put_slots core.slot place (picked self.old.tables pick) (slot_of spot) }) }
+    {
+        fill(&mut self.slots, &self.tables, place, pick, spot);
+    }
+
+    /// The receive side's take of a partition.
+    pub(crate) fn add_take(&mut self, round: u32, partition: u32) -> Result<(), AllocError>
+        ensures tables { self.new.tables ≡ self.old.tables }
+        ensures send { self.new.send ≡ self.old.send }
+        ensures recv { self.new.recv ≡ self.old.recv }
+        ensures seats { self.new.seats.items ≡ self.old.seats.items }
+        ensures shows { IfOk result (λ _. (core : Core Plain) → Shows self.old core → Shows self.new (record core { takes = mark round partition tt ∷ core.takes })) }
+        ensures memory { IfErr result (λ _. (core : Core Plain) → Shows self.old core → Shows self.new core) }
+    {
+        self.takes.push_front(Mark {
+            round,
+            partition,
+            with: (),
+        })?;
+        Ok(())
+    }
+
+    /// Whether a seat has no claim that pends.
+    pub(crate) fn is_free(&self, at: usize) -> bool
+        requires { at < length self.now.seats.items }
+        ensures { (core : Core Plain) (n : ℕ) → Shows self.now core → IsAt self.now.seats.items at n → IsTrue result ↔ (core.pending n ≡ None) }
+    {
+        self.seats[at].pending.is_none()
+    }
+
+    /// A seat marked a partition in a round.
+    pub(crate) fn add_mark(
+        &mut self,
+        at: usize,
+        round: u32,
+        partition: u32,
+    ) -> Result<(), AllocError>
+        requires { at < length self.old.seats.items }
+        ensures tables { self.new.tables ≡ self.old.tables }
+        ensures send { self.new.send ≡ self.old.send }
+        ensures recv { self.new.recv ≡ self.old.recv }
+        ensures seats { (m n : ℕ) → IsAt self.old.seats.items m n → IsAt self.new.seats.items m n }
+        ensures shows { IfOk result (λ _. (core : Core Plain) (n : ℕ) → Shows self.old core → IsAt self.old.seats.items at n
+            → Shows self.new (record core { marks = put core.marks n (mark round partition tt ∷ core.marks n) })) }
+        ensures memory { IfErr result (λ _. (core : Core Plain) → Shows self.old core → Shows self.new core) }
+    {
+        self.seats[at].add_mark(round, partition)
+    }
+
+    /// Another claim of a seat pends, or none.
+    pub(crate) fn set_pending(&mut self, at: usize, pending: Option<Pending>)
+        requires { at < length self.old.seats.items }
+        ensures tables { self.new.tables ≡ self.old.tables }
+        ensures send { self.new.send ≡ self.old.send }
+        ensures recv { self.new.recv ≡ self.old.recv }
+        ensures seats { (m n : ℕ) → IsAt self.old.seats.items m n → IsAt self.new.seats.items m n }
+        ensures shows { (core : Core Plain) (n : ℕ) → Shows self.old core → IsAt self.old.seats.items at n
+            → Shows self.new (record core { pending = put core.pending n pending }) }
+    {
+        self.seats[at].set_pending(pending);
     }
 
     /// A seat that wasn't met so far stands behind the others, and its side counts it.

@@ -1,12 +1,12 @@
 //! What the state needs of its geometry, worked out once.
 
-ghost use Rattle.std.specs.Prelude.{◌≢◌, false, ◌↔◌, ℕ, IsTrue, IfSome, IfNone, ◌≡◌, ◌+◌, ◌*◌, ◌-◌, ◌%◌, ◌<◌, ◌≤◌, IfOk, length, map};
+ghost use Rattle.std.specs.Prelude.{◌≢◌, ◌/◌, false, ◌↔◌, ℕ, IsTrue, IfSome, IfNone, ◌≡◌, ◌+◌, ◌*◌, ◌-◌, ◌%◌, ◌<◌, ◌≤◌, IfOk, length, map};
 ghost use Rattle.std.specs.List.{range_with_len};
 ghost use Rattle.part_geometry.specs.Shape.{IsShape};
 ghost use Rattle.part_geometry.specs.Cells.{cells, send_of, recv_of};
 ghost use Rattle.part_geometry.specs.Pieces.{pieces, piece_of, first_part, need_count};
 ghost use Rattle.part_geometry.specs.Walk.{cell_at};
-ghost use Rattle.pair_core.specs.Names.{Piece, Fits, claim_words, take_words, number};
+ghost use Rattle.pair_core.specs.Names.{Piece, Take, Return, Fits, claim_words, take_words, number};
 ghost use Rattle.pair_core.specs.Reading.{IsFull};
 ghost use Rattle.pair_core.specs.State.{word_count};
 
@@ -241,5 +241,23 @@ impl Tables {
             return false;
         }
         true
+    }
+
+    /// The number of the take word of a receive partition.
+    pub(crate) fn take_word(&self, q: u32) -> usize
+        requires { q < self.now.recv_parts }
+        ensures value { result ≡ number self.now (Take (q / 32)) }
+        ensures limits { result < word_count self.now }
+    {
+        self.claim_words() + 1 + (q / 32) as usize
+    }
+
+    /// The number of the return word of a receive partition.
+    pub(crate) fn return_word(&self, q: u32) -> usize
+        requires { q < self.now.recv_parts }
+        ensures value { result ≡ number self.now (Return (q / 32)) }
+        ensures limits { result < word_count self.now }
+    {
+        self.claim_words() + 1 + self.take_words() + (q / 32) as usize
     }
 }

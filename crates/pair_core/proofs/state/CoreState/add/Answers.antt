@@ -9,13 +9,17 @@ use Rattle.pair_core.proofs.state.CoreState.add.Goals as goal
 
 pub invariant_of-self-then-marker : goal.invariant_of-self-then-marker
 invariant_of-self-then-marker c = let s = c.args.self.now in
-    record { kept = subst (IsKept s.tables s.words.items s.slots.items (marker_more s.send) s.recv) (sym c.in_ok-push.ensures.items)
-        (kept_push s.tables s.words.items s.slots.items s.send (marker_more s.send) s.recv s.recv s.seats.items c.args.view s.kept refl refl (omega arith) c.requires.new c.requires.first c.requires.number) }
+    record {
+      kept = subst (IsKept s.tables s.words.items s.slots.items (marker_more s.send) s.recv) (sym c.in_ok-push.ensures.items)
+          (kept_push s.tables s.words.items s.slots.items s.send (marker_more s.send) s.recv s.recv s.seats.items c.args.view s.kept refl refl (omega arith) c.requires.new c.requires.first c.requires.number);
+    }
 
 pub invariant_of-self-else-marker : goal.invariant_of-self-else-marker
 invariant_of-self-else-marker c = let s = c.args.self.now in
-    record { kept = subst (IsKept s.tables s.words.items s.slots.items s.send (watcher_more s.recv)) (sym c.in_ok-push.ensures.items)
-        (kept_push s.tables s.words.items s.slots.items s.send s.send s.recv (watcher_more s.recv) s.seats.items c.args.view s.kept refl refl (omega arith) c.requires.new c.requires.first c.requires.number) }
+    record {
+      kept = subst (IsKept s.tables s.words.items s.slots.items s.send (watcher_more s.recv)) (sym c.in_ok-push.ensures.items)
+          (kept_push s.tables s.words.items s.slots.items s.send s.send s.recv (watcher_more s.recv) s.seats.items c.args.view s.kept refl refl (omega arith) c.requires.new c.requires.first c.requires.number);
+    }
 
 pub returns-then-marker-clause-at : goal.returns-then-marker-clause-at
 returns-then-marker-clause-at c = let s = c.args.self.now in

@@ -26,5 +26,5 @@ returns-clause-becomes c = λ core shows.
     becomes_quiet s.tables e (Shows c.look.new.self) core c.quietly.result (LoadPiece e.seat found.0 found.1) c.quietly.ensures
     (record { by = refl; kind_is = c.requires; on = found.3 }) (entered_live e.seat core live, found.2.0, found.2.1)
     (c.look.ensures.shows (enters e.seat core) e.seat (Piece found.0 found.1) in' c.in_ok-at.ensures.at (subst (λ (g : Shape). Fits g (Piece found.0 found.1)) (sym c.enter.ensures.tables) found.2)
-        (ap (λ (g : Shape). number g (Piece found.0 found.1)) c.enter.ensures.tables ∙ sym found.3))
+    (ap (λ (g : Shape). number g (Piece found.0 found.1)) c.enter.ensures.tables ∙ sym found.3))
     refl refl
