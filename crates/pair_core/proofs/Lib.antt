@@ -28,3 +28,4 @@ pub mod StateSend
 pub mod StateAdds
 pub mod StateSlots
 pub mod StateClaim
+pub mod StateFirst

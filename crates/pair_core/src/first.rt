@@ -1,12 +1,14 @@
 //! The words before the first step.
 
-ghost use Rattle.std.specs.Prelude.{◌≡◌, ◌+◌, ◌*◌, ◌-◌, ◌<◌, ◌≤◌, ◌^◌, true, IfOk, length};
+ghost use Rattle.std.specs.Prelude.{◌≡◌, ◌∷◌, [], ◌+◌, ◌*◌, ◌-◌, ◌<◌, ◌≤◌, ◌^◌, true, IfOk, length};
 ghost use Rattle.gate_word.specs.Words.{word_of};
 ghost use Rattle.part_geometry.specs.Pieces.{pieces, need};
 ghost use Rattle.pair_core.specs.Names.{Name, Fits, number};
 ghost use Rattle.pair_core.specs.Moves.{first_word, part_mask};
-ghost use Rattle.pair_core.specs.State.{ListsWords, word_count};
+ghost use Rattle.pair_core.specs.declared.seat.Seat.{Seat};
+ghost use Rattle.pair_core.specs.State.{IsFresh, ListsWords, word_count};
 
+use crate::seat::Seat;
 use crate::tables::Tables;
 use gate_word::pack;
 use std::alloc::{AllocError, Global};
@@ -75,4 +77,21 @@ pub(crate) fn first_words(alloc: Global, tables: &Tables) -> Result<Vec<u64>, Al
         words.push(first_word_at(tables, n))?;
     }
     Ok(words)
+}
+
+/// The views of the two sides before the first step.
+pub(crate) fn first_seats(
+    alloc: Global,
+    tables: &Tables,
+    words: &[u64],
+) -> Result<Vec<Seat>, AllocError>
+    requires size { length words.now ≡ word_count tables.now }
+    requires words { ListsWords tables.now words.now (first_word tables.now) }
+    ensures { IfOk result (λ seats. (v : Seat) × (w : Seat) × (seats.items ≡ v ∷ w ∷ []) × IsFresh tables.now v × IsFresh tables.now w × (v.seat ≡ 0) × (w.seat ≡ 1)) }
+{
+    let _geometry = tables.geometry();
+    let mut seats = Vec::new(alloc);
+    seats.push(Seat::new(alloc, 0, words)?)?;
+    seats.push(Seat::new(alloc, 1, words)?)?;
+    Ok(seats)
 }

@@ -5,10 +5,11 @@ ghost use Rattle.pair_core.specs.Names.{Name, Fits, number, put, put_word};
 ghost use Rattle.pair_core.specs.Core.{Core};
 ghost use Rattle.pair_core.specs.State.{slot_of, IsFresh, IsKept, IsAt, Plain, word_count};
 
-use crate::first::first_words;
+use crate::first::{first_seats, first_words};
 use crate::seat::{Pick, Seat, Spot, fill};
 use crate::tables::Tables;
 use crate::view::{Mark, Pending, RecvSide, SendSide};
+use part_geometry::Geometry;
 use std::alloc::{AllocError, Global};
 use std::collections::LinkedList;
 
@@ -27,9 +28,45 @@ pub struct CoreState {
 }
 
 impl CoreState {
-    ghost use Rattle.pair_core.specs.Shows.{Shows};
+    ghost use Rattle.pair_core.specs.Shows.{Shows, geometry_of};
+    ghost use Rattle.pair_core.specs.Moves.{first_state};
     ghost use Rattle.pair_core.specs.Picks.{picked};
     ghost use Rattle.pair_core.specs.Steps.{enters, loads, mark, put_slots, saw, wrote};
+
+    /// The state of a pair before its first step: round 0 counts as sent, taken, given back and released.
+    pub fn start(alloc: Global, geometry: Geometry) -> Result<CoreState, AllocError>
+        ensures first { IfOk result (λ state. Shows state (first_state geometry)) }
+        ensures geometry { IfOk result (λ state. geometry_of state ≡ geometry) }
+    {
+        let tables = Tables::create(alloc, geometry)?;
+        let words = first_words(alloc, &tables)?;
+        let seats = first_seats(alloc, &tables, words.as_slice())?;
+        let spots = tables.geometry().depth() as usize * tables.cells();
+        let slots = vec![in alloc; Spot::Filled { round: 0 }; spots]?;
+        let send = SendSide {
+            round: 0,
+            pieces: tables.pieces() as u32,
+            opened: tables.claim_words() as u32,
+            shut: tables.claim_words() as u32,
+            markers: 0,
+        };
+        let recv = RecvSide {
+            round: 0,
+            returns: tables.take_words() as u32,
+            takes: tables.take_words() as u32,
+            released: 1,
+            watchers: 0,
+        };
+        Ok(CoreState {
+            tables,
+            words,
+            slots,
+            send,
+            recv,
+            seats,
+            takes: LinkedList::new(alloc),
+        })
+    }
 
     /// The word with a number.
     pub(crate) fn word(&self, index: usize) -> u64
