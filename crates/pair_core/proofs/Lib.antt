@@ -28,3 +28,14 @@ pub mod Joining
 pub mod ReceiveMarks
 pub mod Keeps
 pub mod Order
+pub mod StateTables
+pub mod StateNumbers
+pub mod StateSeats
+pub mod StateReads
+pub mod StateBecomes
+pub mod StateFull
+pub mod StateSend
+pub mod StateAdds
+pub mod StateSlots
+pub mod StateClaim
+pub mod StateFirst

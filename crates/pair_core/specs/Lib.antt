@@ -7,3 +7,7 @@ pub mod Moves
 pub mod Sound
 pub mod History
 pub mod Laws
+pub mod Events
+pub mod State
+pub mod Shows
+pub mod Picks

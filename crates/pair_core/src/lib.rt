@@ -1,7 +1,20 @@
 //! The core of a pair that many threads use: its state as plain data, and the atomic steps that change it.
 #![tactic(auto)]
 
+mod bits;
+mod claim;
+mod event;
+mod first;
 mod laws;
+mod looking;
+mod recv;
+mod seat;
+mod send;
+mod state;
+mod tables;
+mod take;
 pub mod view;
 
+pub use event::{Applied, Event};
 pub use laws::core_laws;
+pub use state::CoreState;

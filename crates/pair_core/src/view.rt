@@ -15,6 +15,7 @@ pub struct Mark<A> {
 }
 
 /// A claim that pends: a partition was claimed in a round, and not all of its pieces have it yet.
+#[derive(Debug, Drop)]
 pub struct Pending {
     /// The round.
     pub round: u32,
@@ -26,6 +27,7 @@ pub struct Pending {
 
 /// How far the send side has come in its round. Where `shut` is the number of claim words the side is idle; where
 /// only `opened` is, it is active.
+#[derive(Clone, Copy, Debug, PartialEq, Eq)]
 pub struct SendSide {
     /// The round, 0 before the first one.
     pub round: u32,
@@ -36,11 +38,12 @@ pub struct SendSide {
     /// How many claim words are shut in this round.
     pub shut: u32,
     /// How many markers are out.
-    pub markers: u32,
+    pub markers: u64,
 }
 
 /// How far the receive side has come in its round. Where `released` is 1 the side is idle; where it isn't and
 /// `takes` is the number of take words, the side is active.
+#[derive(Clone, Copy, Debug, PartialEq, Eq)]
 pub struct RecvSide {
     /// The round, 0 before the first one.
     pub round: u32,
@@ -51,7 +54,7 @@ pub struct RecvSide {
     /// 1 where the release of this round is stored, else 0.
     pub released: u32,
     /// How many watchers are out.
-    pub watchers: u32,
+    pub watchers: u64,
 }
 
 /// Whether a seat has a view.

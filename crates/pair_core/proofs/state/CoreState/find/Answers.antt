@@ -1,0 +1,12 @@
+use Rattle.std.proofs.Common.{◌≡◌, ◌<◌, length, get_or, List, ap, subst, ◌∙◌, sym, arith}
+use Rattle.pair_core.specs.declared.seat.Seat.{Seat}
+use Rattle.pair_core.proofs.StateSeats.{read_seat}
+use Rattle.pair_core.proofs.state.CoreState.find.Goals as goal
+
+pub returns-then-known-seat-clause-some : goal.returns-then-known-seat-clause-some
+returns-then-known-seat-clause-some c =
+    let e = c.deref-known-items.ensures.value in
+    let low : c.loop-at.at < length c.args.self.now.seats.items = subst (λ (l : List Seat). c.loop-at.at < length l) e c.loop-at-test.true in
+    let is : c.known-item.result ≡ get_or c.args.self.now.seats.items c.loop-at.at c.known-item.result
+    = subst (λ (l : List Seat). c.known-item.result ≡ get_or l c.loop-at.at c.known-item.result) e c.known-item.is in
+    (c.known-item.result, read_seat _ _ _ low is, c.if-known-seat.true)

@@ -1,0 +1,13 @@
+use Rattle.std.proofs.Common.{refl}
+use Rattle.pair_core.proofs.state.CoreState.set_recv.Goals as goal
+
+pub returns-clause-shows : goal.returns-clause-shows
+returns-clause-shows c = λ core shows. record {
+  words_are = shows.words_are;
+  slots_are = shows.slots_are;
+  send_are = shows.send_are;
+  recv_are = refl;
+  seats_are = λ at v is. let view = shows.seats_are at v is in record { live = view.live; seen = view.seen; looks = view.looks; pending = view.pending; marks = view.marks };
+  others_are = λ n none. let b = shows.others_are n none in record { blank = b.blank; seen = b.seen; looks = b.looks; pending = b.pending; marks = b.marks };
+  takes_are = shows.takes_are;
+}

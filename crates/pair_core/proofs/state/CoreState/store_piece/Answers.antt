@@ -1,0 +1,32 @@
+use Rattle.std.proofs.Common.{◌≡◌, ◌%◌, ℕ, refl, sym, ap, ◌∙◌, arith}
+use Rattle.pair_core.specs.Names.{Piece, number}
+use Rattle.pair_core.specs.Moves.{Move, IsAllowed, StorePiece}
+use Rattle.pair_core.specs.State.{Plain}
+use Rattle.pair_core.specs.Shows.{Shows}
+use Rattle.pair_core.proofs.StateSeats.{send_at}
+use Rattle.pair_core.proofs.StateReads.{reads_1}
+use Rattle.pair_core.proofs.StateBecomes.{becomes_quiet}
+use Rattle.pair_core.proofs.StateSend.{piece_allowed, piece_shown}
+use Rattle.pair_core.proofs.state.CoreState.store_piece.Goals as goal
+
+pub returns-in_default-clause-becomes : goal.returns-in_default-clause-becomes
+returns-in_default-clause-becomes c = λ core shows.
+    let g = c.args.self.now.tables in let e = c.args.event.now in (
+      reads_1 g core e (λ m. ¬ IsAllowed g core m) c.requires (λ k i reads allowed.
+          c.in_default.ensures.none i allowed.0 (reads.0.on ∙ ap (λ (z : ℕ). number g (Piece z i)) (ap (λ (z : ℕ). z % g.depth) (sym reads.1) ∙ sym c.place-place.ensures.value))),
+      shows,
+    )
+
+pub returns-clause-becomes : goal.returns-clause-becomes
+returns-clause-becomes c = λ core shows.
+    let s = c.args.self.now in let e = c.args.event.now in
+    let at = send_at s.tables s.words.items s.slots.items s.send s.recv s.seats.items s.kept in
+    let found = c.in-Some.ensures.some in
+    let next = c.if-not-begins_next.ensures.0 refl in
+    let room = (c.if-not-has_room.ensures core shows).0 refl in
+    becomes_quiet s.tables e (Shows c.set_send.new.self) core c.quietly.result (StorePiece e.round c.in-Some.i) c.quietly.ensures
+    (record { by = omega arith; kind_is = c.requires; on = found.1 ∙ ap (λ (z : ℕ). number s.tables (Piece z c.in-Some.i)) c.place-place.ensures.value }, refl)
+    (piece_allowed s.tables core s.send e.round c.in-Some.i shows.send_are found.0 (omega arith) room next)
+    (piece_shown s.tables (Shows c.set_send.new.self) core s.send c.place-place.result e.round c.in-Some.i c.empty_word.result shows.send_are c.empty_word.ensures c.place-place.ensures.value
+    (c.set_send.ensures.shows _ (c.write.ensures.shows core 0 (Piece c.place-place.result c.in-Some.i) shows at (c.place-place.ensures.limits, found.0) (sym found.1))))
+    refl refl

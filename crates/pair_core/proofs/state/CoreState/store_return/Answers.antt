@@ -1,0 +1,23 @@
+use Rattle.std.proofs.Common.{◌≡◌, ◌<◌, ◌+◌, ◌-◌, sym, refl, arith}
+use Rattle.pair_core.specs.Names.{Return, number, take_words}
+use Rattle.pair_core.specs.Moves.{StoreReturn}
+use Rattle.pair_core.specs.Shows.{Shows}
+use Rattle.pair_core.proofs.StateSeats.{recv_at}
+use Rattle.pair_core.proofs.StateBecomes.{becomes_quiet}
+use Rattle.pair_core.proofs.StateSend.{return_allowed, return_shown}
+use Rattle.pair_core.proofs.state.CoreState.store_return.Goals as goal
+
+pub returns-clause-becomes : goal.returns-clause-becomes
+returns-clause-becomes c = λ core shows.
+    let s = c.args.self.now in let e = c.args.event.now in
+    let at = recv_at s.tables s.words.items s.slots.items s.send s.recv s.seats.items s.kept in
+    let next = c.if-not-returns_next.ensures.0 refl in
+    let t = e.word - (c.claim_words.result + 1 + c.take_words.result) in
+    let num : number s.tables (Return t) ≡ e.word = omega (arith, c.claim_words.ensures.value, c.take_words.ensures.value) in
+    let inside : t < take_words s.tables = omega (arith, c.take_words-else-word-first.ensures.value) in
+    becomes_quiet s.tables e (Shows c.set_recv.new.self) core c.quietly.result (StoreReturn e.round t) c.quietly.ensures
+    (record { by = omega arith; kind_is = c.requires; on = sym num }, refl)
+    (return_allowed s.tables core s.recv e.round t shows.recv_are inside (omega arith) next)
+    (return_shown (Shows c.set_recv.new.self) core s.recv e.round t c.empty_word.result shows.recv_are c.empty_word.ensures
+    (c.set_recv.ensures.shows _ (c.write.ensures.shows core 1 (Return t) shows at inside num)))
+    refl refl
