@@ -1,0 +1,3 @@
+pub mod FourFacts
+pub mod LaneFacts
+pub mod WindowFacts
