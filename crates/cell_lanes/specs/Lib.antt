@@ -1,3 +1,4 @@
 pub mod Lanes
+pub mod Reciprocal
 pub mod Sizes
 pub mod Window
