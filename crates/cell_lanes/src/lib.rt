@@ -3,7 +3,11 @@
 
 mod divisor;
 mod lanes;
+mod padded;
+mod row;
+mod run;
 mod sums;
 
 pub use divisor::Divisor;
+pub use run::run_lanes;
 pub use sums::window_sums;

@@ -21,9 +21,10 @@ pub loop-out-preserved : goal.loop-out-preserved
 loop-out-preserved c =
     let long = length-put_chunk c.loop-out.x c.loop-out.out (map (to_z w64) (map (of_z w64) c.sums_of_four.result)) in
     let room = c.loop-out-test.true in
-    let size : c.loop-out.x + 4 ≤ length c.loop-out.out = omega arith in
-    (rw long size,
-     done-four c.args.weights.now c.args.window.now c.args.width c.loop-out.x c.loop-out.out c.sums_of_four.result c.loop-out.invariant.1 size c.sums_of_four.ensures.sums c.sums_of_four.ensures.limits)
+    let size : c.loop-out.x + 4 ≤ length c.loop-out.out = omega arith in (
+      rw long size,
+      done-four c.args.weights.now c.args.window.now c.args.width c.loop-out.x c.loop-out.out c.sums_of_four.result c.loop-out.invariant.1 size c.sums_of_four.ensures.sums c.sums_of_four.ensures.limits,
+    )
 
 pub loop-rest-init : goal.loop-rest-init
 loop-rest-init c = c.loop-out.invariant.1
