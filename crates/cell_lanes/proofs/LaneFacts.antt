@@ -22,7 +22,7 @@ sum-back z h = back z (omega arith)
 value-back : (z : ℤ) → IsValue z → to_z w64 (of_z w64 z) ≡ z
 value-back z h = back z (omega arith)
 
-weight-back : (z : ℤ) → IsWeight z → to_z w64 (of_z w64 z) ≡ z
+pub weight-back : (z : ℤ) → IsWeight z → to_z w64 (of_z w64 z) ≡ z
 weight-back z h = back z (omega arith)
 
 pub product-size : (a v : ℤ) → IsWeight a → IsValue v → unsigned_abs (a *ℤ v) ≤ 1000000000000000

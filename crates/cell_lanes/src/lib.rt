@@ -7,6 +7,8 @@ mod padded;
 mod row;
 mod run;
 mod sums;
+#[cfg(test)]
+mod tests;
 
 pub use divisor::Divisor;
 pub use run::run_lanes;

@@ -44,7 +44,7 @@ loop-step-preserved c =
     let now : IsPadded (cell (fold_plane g rule n)) rule rows cols c.deref.result.now =
     subst (λ xs. IsPadded (cell (fold_plane g rule n)) rule rows cols xs) (sym c.deref.ensures.value) c.loop-step.invariant.padded in
     let next = padded-step g rule n rows cols c.next_padded.new.next e f some-rows some-cols
-        (c.next_padded.ensures.padded (fold_plane g rule n) (fold-rows g rule n ∙ e) (fold-cols g rule n ∙ f) now) in
+    (c.next_padded.ensures.padded (fold_plane g rule n) (fold-rows g rule n ∙ e) (fold-cols g rule n ∙ f) now) in
     record {
       last_length = ap length x ∙ (same ∙ (c.loop-step.invariant.next_length ∙ c.loop-step.invariant.last_length));
       next_length = ap length y ∙ (sym c.loop-step.invariant.next_length ∙ (sym same ∙ sym (ap length x)));
