@@ -174,7 +174,11 @@ fn sums_at_reach(
     }
 }
 
-/// The plain weighted sums of a row.
+/// The plain weighted sums of a row, four cells at a time and the rest one by one.
+///
+/// The window is the rows round it, each with the reach of the weights more columns at both sides. Place x of `out`
+/// becomes the sum over a and b of `weights.at(a, b)` times the value in row a and column x + b of the window. Each
+/// value is from -10^12 to 10^12, and `width` is how many columns a row of the window has.
 pub fn window_sums(window: &[i64], width: u32, weights: &Weights, out: &mut [i64])
     requires window { length window.now ≡ side weights.now * width }
     requires values { All IsValue window.now }
@@ -189,5 +193,38 @@ pub fn window_sums(window: &[i64], width: u32, weights: &Weights, out: &mut [i64
         (true, false) => sums_at_reach(window, width as usize, &own, 1, false, out),
         (false, true) => sums_at_reach(window, width as usize, &own, 2, true, out),
         (false, false) => sums_at_reach(window, width as usize, &own, 2, false, out),
+    }
+}
+
+/// The sums of all cells of the row, one by one.
+#[inline(always)]
+fn plain_at_reach(window: &[i64], width: usize, weights: &Weights, reach: u32, out: &mut [i64])
+    requires window { length window.now ≡ side weights.now * width }
+    requires values { All IsValue window.now }
+    requires reach { reach ≡ weights.now.reach }
+    requires near { reach ≤ 2 }
+    requires out { length out.old + 2 * reach ≡ width }
+    ensures sums { (x : ℕ) → x < length out.old → slice_index_or out.new x (pos 0) ≡ sum_at weights.now window.now width x }
+    ensures limits { All IsSum out.new }
+{
+    for x in 0..out.len() {
+        out[x] = sum_of_one(window, width, weights, reach, x);
+    }
+}
+
+/// The same sums as `window_sums`, one cell at a time. On processors whose vectors have no product of 64 bits, which
+/// programs are built for, this takes fewer steps.
+pub fn window_sums_one_by_one(window: &[i64], width: u32, weights: &Weights, out: &mut [i64])
+    requires window { length window.now ≡ side weights.now * width }
+    requires values { All IsValue window.now }
+    requires out { length out.old + 2 * weights.now.reach ≡ width }
+    ensures sums { (x : ℕ) → x < length out.old → slice_index_or out.new x (pos 0) ≡ sum_at weights.now window.now width x }
+    ensures limits { All IsSum out.new }
+{
+    let own = *weights;
+    if own.reach() == 1 {
+        plain_at_reach(window, width as usize, &own, 1, out);
+    } else {
+        plain_at_reach(window, width as usize, &own, 2, out);
     }
 }
