@@ -16,7 +16,7 @@ bits_product a b = of_z w64 (to_z w64 a *ℤ to_z w64 b)
 pub back : (z : ℤ) → unsigned_abs z < 2 ^ 63 → to_z w64 (of_z w64 z) ≡ z
 back z h = to_z-of_z w64 z (fits_signed_from_abs w64 z h)
 
-sum-back : (z : ℤ) → IsSum z → to_z w64 (of_z w64 z) ≡ z
+pub sum-back : (z : ℤ) → IsSum z → to_z w64 (of_z w64 z) ≡ z
 sum-back z h = back z (omega arith)
 
 value-back : (z : ℤ) → IsValue z → to_z w64 (of_z w64 z) ≡ z

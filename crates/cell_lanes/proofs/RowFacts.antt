@@ -109,14 +109,11 @@ part-at row new rest r col h less =
     ap (λ n. get_or (take r row ++ (new ++ rest)) (n + col) (pos 0)) (sym long)
     ∙ (get_or-append-add (take r row) (new ++ rest) col (pos 0) ∙ get_or_append_left new rest (pos 0) col less)
 
--- the sums of a row, divided
-pub new-values : (rule : Rule) (window : List ℤ) (cols r : ℕ) (d : ℤ) (sums new : List ℤ) → r ≡ rule.weights.reach → d ≡ rule.div → length sums ≡ cols
-    → ((x : ℕ) → x < cols → get_or sums x (pos 0) ≡ sum_at rule.weights window (r + cols + r) x)
-    → new ≡ map (λ sum. clamped (int_div sum d)) sums
+-- the new values of a row, in its width
+pub new-values : (rule : Rule) (window : List ℤ) (cols r : ℕ) (d : ℤ) (new : List ℤ) → r ≡ rule.weights.reach → d ≡ rule.div
+    → ((x : ℕ) → x < cols → get_or new x (pos 0) ≡ clamped (int_div (sum_at rule.weights window (r + cols + r) x) d))
     → (col : ℕ) → col < cols → get_or new col (pos 0) ≡ new_at rule window (with_ends rule cols) col
-new-values rule window cols r d sums new e f long each made col less =
+new-values rule window cols r d new e f each col less =
     let wide : r + cols + r ≡ with_ends rule cols = omega arith in
-    let sum : get_or sums col (pos 0) ≡ sum_at rule.weights window (with_ends rule cols) col = each col less ∙ ap (λ n. sum_at rule.weights window n col) wide in
-    ap (λ l. get_or l col (pos 0)) made
-    ∙ (get_or-map (λ s. clamped (int_div s d)) sums col (pos 0) (pos 0) (omega arith)
-    ∙ (ap (λ s. clamped (int_div s d)) sum ∙ ap (λ z. clamped (int_div (sum_at rule.weights window (with_ends rule cols) col) z)) f))
+    each col less
+    ∙ (ap (λ n. clamped (int_div (sum_at rule.weights window n col) d)) wide ∙ ap (λ z. clamped (int_div (sum_at rule.weights window (with_ends rule cols) col) z)) f)

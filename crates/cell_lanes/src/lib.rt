@@ -12,4 +12,4 @@ mod tests;
 
 pub use divisor::Divisor;
 pub use run::run_lanes;
-pub use sums::{window_sums, window_sums_one_by_one};
+pub use sums::{new_cells, window_sums};

@@ -7,7 +7,7 @@ ghost use Rattle.stencil_def.specs.Square.{side};
 ghost use Rattle.stencil_def.specs.Step.{place};
 ghost use Rattle.cell_lanes.specs.Padding.{with_ends, new_at, end_or};
 
-use crate::{Divisor, window_sums_one_by_one};
+use crate::{Divisor, new_cells};
 use stencil_def::{Around, Rule};
 
 /// Which of `size` rows or columns stands at the place `at`, where `reach` places stand before the first.
@@ -75,8 +75,7 @@ pub(crate) fn next_row(window: &[i64], rule: &Rule, divisor: &Divisor, cols: u32
     let reach = rule.weights.reach();
     let end = reach + cols;
     let middle = &mut row[reach as usize..end as usize];
-    window_sums_one_by_one(window, end + reach, &rule.weights, middle);
-    divisor.quotients(middle);
+    new_cells(window, end + reach, &rule.weights, divisor, middle);
     set_ends(rule, cols, 0, reach, row);
     set_ends(rule, cols, end, end + reach, row);
 }

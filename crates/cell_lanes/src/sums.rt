@@ -1,13 +1,15 @@
 //! The weighted sums of a row.
 
-ghost use Rattle.std.specs.Prelude.{◌≡◌, ℕ, ◌+◌, ◌*◌, ◌<◌, ◌≤◌, ◌*ℤ◌, pos, ◌≤ℤ◌, IsTrue, length, slice_index_or, unsigned_abs};
+ghost use Rattle.std.specs.Prelude.{◌≡◌, ℕ, ◌+◌, ◌*◌, ◌<◌, ◌≤◌, ◌*ℤ◌, pos, int_div, ◌≤ℤ◌, IsTrue, length, slice_index_or, unsigned_abs};
 ghost use Rattle.std.specs.List.{All};
 ghost use Rattle.stencil_def.specs.Limits.{IsWeight, IsValue};
 ghost use Rattle.stencil_def.specs.Square.{side, weight};
+ghost use Rattle.stencil_def.specs.Step.{clamped};
 ghost use Rattle.cell_lanes.specs.Lanes.{four};
 ghost use Rattle.cell_lanes.specs.Sizes.{IsSum, IsRowSum};
 ghost use Rattle.cell_lanes.specs.Window.{HasNoNegative, row_sum_at, sum_at};
 
+use crate::Divisor;
 use crate::lanes::{LANES, plus, times};
 use std::simd::prelude::*;
 use stencil_def::Weights;
@@ -196,35 +198,48 @@ pub fn window_sums(window: &[i64], width: u32, weights: &Weights, out: &mut [i64
     }
 }
 
-/// The sums of all cells of the row, one by one.
+/// The new values of all cells of the row, one by one.
 #[inline(always)]
-fn plain_at_reach(window: &[i64], width: usize, weights: &Weights, reach: u32, out: &mut [i64])
+fn new_at_reach(
+    window: &[i64],
+    width: usize,
+    weights: &Weights,
+    reach: u32,
+    divisor: &Divisor,
+    out: &mut [i64],
+)
     requires window { length window.now ≡ side weights.now * width }
     requires values { All IsValue window.now }
     requires reach { reach ≡ weights.now.reach }
     requires near { reach ≤ 2 }
     requires out { length out.old + 2 * reach ≡ width }
-    ensures sums { (x : ℕ) → x < length out.old → slice_index_or out.new x (pos 0) ≡ sum_at weights.now window.now width x }
-    ensures limits { All IsSum out.new }
+    ensures values { (x : ℕ) → x < length out.old →
+        slice_index_or out.new x (pos 0) ≡ clamped (int_div (sum_at weights.now window.now width x) divisor.now) }
+    ensures limits { All IsValue out.new }
 {
     for x in 0..out.len() {
-        out[x] = sum_of_one(window, width, weights, reach, x);
+        out[x] = divisor.quotient(sum_of_one(window, width, weights, reach, x));
     }
 }
 
-/// The same sums as `window_sums`, one cell at a time. On processors whose vectors have no product of 64 bits, which
-/// programs are built for, this takes fewer steps.
-pub fn window_sums_one_by_one(window: &[i64], width: u32, weights: &Weights, out: &mut [i64])
+/// The new values of a row: its weighted sums, divided with truncation toward zero and clamped to -10^12 to 10^12.
+///
+/// The window and `out` are those of `window_sums`. The cells are computed one by one: on processors whose vectors
+/// have no product of 64 bits, which programs are built for, that takes fewer steps than vectors do.
+pub fn new_cells(window: &[i64], width: u32, weights: &Weights, divisor: &Divisor, out: &mut [i64])
     requires window { length window.now ≡ side weights.now * width }
     requires values { All IsValue window.now }
     requires out { length out.old + 2 * weights.now.reach ≡ width }
-    ensures sums { (x : ℕ) → x < length out.old → slice_index_or out.new x (pos 0) ≡ sum_at weights.now window.now width x }
-    ensures limits { All IsSum out.new }
+    ensures values { (x : ℕ) → x < length out.old →
+        slice_index_or out.new x (pos 0) ≡ clamped (int_div (sum_at weights.now window.now width x) divisor.now) }
+    ensures limits { All IsValue out.new }
 {
+    // Copies of their own, which no write to the cells can change, stay in registers.
     let own = *weights;
+    let by = divisor.copy();
     if own.reach() == 1 {
-        plain_at_reach(window, width as usize, &own, 1, out);
+        new_at_reach(window, width as usize, &own, 1, &by, out);
     } else {
-        plain_at_reach(window, width as usize, &own, 2, out);
+        new_at_reach(window, width as usize, &own, 2, &by, out);
     }
 }
