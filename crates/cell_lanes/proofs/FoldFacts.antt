@@ -1,5 +1,5 @@
 -- The padded grid after a number of steps.
-use Rattle.std.proofs.Common.{◌≡◌, ◌∙◌, refl, sym, ap, subst, ℕ, zero, suc, ◌+◌, ◌*◌, ◌<◌, ℤ, pos, List, length, get_or, Result, Ok, Err, IfOk, arith}
+use Rattle.std.proofs.Common.{◌≡◌, ◌∙◌, refl, sym, ap, subst, ℕ, zero, suc, ◌+◌, ◌*◌, ◌<◌, ℤ, List, length, Result, Ok, Err, IfOk, arith}
 use Rattle.std.proofs.lemmas.List.FromFn.{length-map-range_with_len}
 use Rattle.stencil_def.specs.declared.rule.Rule.{Rule}
 use Rattle.stencil_def.specs.Plane.{Plane, IsPlane, cell}

@@ -1,5 +1,5 @@
 -- Vectors of signed numbers, lane by lane.
-use Rattle.std.proofs.Common.{◌≡◌, ◌∙◌, refl, ap, ℕ, ◌≤◌, ◌<◌, ◌^◌, ℤ, ◌+ℤ◌, ◌*ℤ◌, unsigned_abs, FitsSigned, to_z, of_z, w64, List, [], ◌∷◌, map, length, replicate, zero, suc, arith}
+use Rattle.std.proofs.Common.{◌≡◌, refl, ℕ, ◌≤◌, ◌<◌, ◌^◌, ℤ, ◌+ℤ◌, ◌*ℤ◌, unsigned_abs, FitsSigned, to_z, of_z, w64, List, [], ◌∷◌, map, length, replicate, zero, suc, arith}
 use Rattle.std.specs.Simd.Lanes.{zip2, Each1, Each2}
 use Rattle.std.proofs.lemmas.Int.{ints, to_z-of_z, fits_signed_from_abs, fits_signed_mul, unsigned_abs-mul}
 use Rattle.std.proofs.lemmas.Nat.{mul-le}
@@ -16,7 +16,7 @@ bits_product a b = of_z w64 (to_z w64 a *ℤ to_z w64 b)
 pub back : (z : ℤ) → unsigned_abs z < 2 ^ 63 → to_z w64 (of_z w64 z) ≡ z
 back z h = to_z-of_z w64 z (fits_signed_from_abs w64 z h)
 
-pub sum-back : (z : ℤ) → IsSum z → to_z w64 (of_z w64 z) ≡ z
+sum-back : (z : ℤ) → IsSum z → to_z w64 (of_z w64 z) ≡ z
 sum-back z h = back z (omega arith)
 
 value-back : (z : ℤ) → IsValue z → to_z w64 (of_z w64 z) ≡ z

@@ -7,7 +7,7 @@ use Rattle.stencil_def.specs.declared.rule.Rule.{Rule}
 use Rattle.stencil_def.specs.Limits.{IsValue}
 use Rattle.std.specs.Simd.Lanes.{chunk}
 use Rattle.std.proofs.lemmas.Simd.{get_or-chunk}
-use Rattle.stencil_def.specs.Plane.{Plane, IsPlane, cell, row_of, with_cell}
+use Rattle.stencil_def.specs.Plane.{Plane, IsPlane, cell, row_of}
 use Rattle.stencil_def.specs.Square.{side, weight}
 use Rattle.stencil_def.specs.Step.{place, read, cell_or, sum_below, weighted, window_sum, clamped, new_cell}
 use Rattle.cell_lanes.specs.Window.{met, row_sum_at, sum_at}
@@ -240,28 +240,6 @@ pub record RowTaken (old grid : Plane) (row n : ℕ) (cells : List ℤ) : Type 0
   pub plane : IsPlane grid
   pub done : (k : ℕ) → k < n → get_or grid.values (row * old.cols + k) (pos 0) ≡ get_or cells k (pos 0)
   pub below : (k : ℕ) → k < row * old.cols → get_or grid.values k (pos 0) ≡ get_or old.values k (pos 0)
-
-pub row-taken-next : (old grid new : Plane) (row n : ℕ) (cells : List ℤ) (v : ℤ) → RowTaken old grid row n cells → row < old.rows → n < old.cols
-    → v ≡ get_or cells n (pos 0) → new ≡ with_cell grid row n v → IsPlane new → RowTaken old new row (n + 1) cells
-row-taken-next old grid new row n cells v t inside less e is plane =
-    let at : row * grid.cols + n ≡ row * old.cols + n = ap (λ k. row * k + n) t.cols in
-    let values : new.values ≡ set grid.values (row * old.cols + n) v = ap (λ p. p.values) is ∙ ap (λ k. set grid.values k v) at in
-    let room : row * old.cols + n < length grid.values =
-    let m = mul-add-lt row old.cols n old.rows inside less in
-    let long : length grid.values ≡ old.rows * old.cols = t.plane.length ∙ (ap (λ k. k * grid.cols) t.rows ∙ ap (λ k. old.rows * k) t.cols) in
-    omega (arith, m, long) in
-    record {
-      rows = ap (λ p. p.rows) is ∙ t.rows;
-      cols = ap (λ p. p.cols) is ∙ t.cols;
-      plane = plane;
-      done = λ k h. ap (λ xs. get_or xs (row * old.cols + k) (pos 0)) values
-          ∙ below-or k n
-          (λ l. get_or-set_other grid.values (row * old.cols + n) (row * old.cols + k) v (pos 0) (omega arith) ∙ t.done k l)
-          (λ l. let same : n ≡ k = omega arith in
-          subst (λ j. get_or (set grid.values (row * old.cols + n) v) (row * old.cols + j) (pos 0) ≡ get_or cells j (pos 0)) same
-          (get_or-set_same grid.values (row * old.cols + n) v (pos 0) room ∙ e));
-      below = λ k h. ap (λ xs. get_or xs k (pos 0)) values ∙ (get_or-set_other grid.values (row * old.cols + n) k v (pos 0) (omega arith) ∙ t.below k h);
-    }
 
 -- a cell of the grid's own stands behind the reach
 pub own-cell : (g : Plane) (rule : Rule) (rows cols row col : ℕ) (values : List ℤ) → IsPadded (cell g) rule rows cols values → row < rows → col < cols → g.cols ≡ cols

@@ -1,7 +1,7 @@
 -- A product with a reciprocal gives the quotient.
 use Rattle.std.proofs.lemmas.Int.{ints, to_z-of_z, fits_signed_from_abs}
 use Rattle.stencil_def.specs.Limits.{IsDiv}
-use Rattle.std.proofs.Common.{◌≡◌, ◌∙◌, refl, sym, ap, subst, pow-add, ℤ, pos, negsuc, ◌≤ℤ◌, unsigned_abs, to_z, of_z, w64, ℕ, ◌+◌, ◌-◌, ◌*◌, ◌/◌, ◌%◌, ◌^◌, ◌<◌, ◌≤◌, arith}
+use Rattle.std.proofs.Common.{◌≡◌, ◌∙◌, refl, sym, ap, subst, pow-add, ℤ, pos, negsuc, unsigned_abs, to_z, of_z, w64, ℕ, ◌+◌, ◌-◌, ◌*◌, ◌/◌, ◌%◌, ◌^◌, ◌<◌, ◌≤◌, arith}
 use Rattle.std.proofs.lemmas.Nat.{mul-le}
 use Rattle.std.proofs.Math.Nat.{div-eq_of_lt-le, div-div-eq-div-mul, div-mul-le_self, lt-div-mul-add, lt_of_mul-lt-mul_right, div-lt_iff_lt-mul, mod-eq_of_lt}
 use Rattle.std.proofs.Math.Pow.{pow_mono, pow-lt}
@@ -67,10 +67,6 @@ size-of (negsuc n) h = let a = h.0 in absurd (omega (arith, ints, a))
 
 pub divisor-back : (z : ℤ) → IsDiv z → to_z w64 (of_z w64 z) ≡ z
 divisor-back z h = let s = (size-of z h).1 in to_z-of_z w64 z (fits_signed_from_abs w64 z (omega arith))
-
-pub divisor-is : (z : ℤ) → IsDiv z → pos (unsigned_abs z) ≡ z
-divisor-is (pos n) h = refl
-divisor-is (negsuc n) h = let a = h.0 in absurd (omega (arith, ints, a))
 
 pub cast-size : (z : ℤ) → IsDiv z → (1 ≤ unsigned_abs (to_z w64 (of_z w64 z))) × (unsigned_abs (to_z w64 (of_z w64 z)) ≤ 1000000)
 cast-size z h = rw (divisor-back z h) (size-of z h)

@@ -1,5 +1,5 @@
 -- A row with ends.
-use Rattle.std.proofs.Common.{◌≡◌, ◌∙◌, refl, sym, ap, subst, ℕ, ◌+◌, ◌-◌, ◌*◌, ◌%◌, ◌<◌, ◌≤◌, ℤ, pos, negsuc, ◌-ℤ◌, List, ◌++◌, length, take, drop, map, int_div, length-take-le, get_or, set, get_or-set_same, get_or-set_other, Option, Some, None, IfSome, nat_lt, if◌then◌else◌, Bool, true, false, to_z, of_z, w64, arith}
+use Rattle.std.proofs.Common.{◌≡◌, ◌∙◌, refl, sym, ap, subst, ℕ, ◌+◌, ◌-◌, ◌<◌, ◌≤◌, ℤ, pos, negsuc, ◌-ℤ◌, List, ◌++◌, length, take, drop, int_div, length-take-le, get_or, set, get_or-set_same, get_or-set_other, Option, Some, None, IfSome, nat_lt, if◌then◌else◌, Bool, true, false, to_z, of_z, w64, arith}
 use Rattle.std.proofs.lemmas.Int.{ints}
 use Rattle.std.proofs.Math.Nat.{mod-lt, mod-eq_of_lt}
 use Rattle.std.proofs.lemmas.List.Elements.{All-set}
@@ -12,7 +12,7 @@ use Rattle.stencil_def.specs.Step.{place}
 use Rattle.std.proofs.lemmas.Bool.{ltb-true, lt-ltb}
 use Rattle.stencil_def.specs.Step.{clamped}
 use Rattle.std.proofs.lemmas.Simd.{length-chunk}
-use Rattle.std.proofs.lemmas.List.{get_or-append-add, get_or_append_left, get_or-map, length-map}
+use Rattle.std.proofs.lemmas.List.{get_or-append-add, get_or_append_left}
 use Rattle.cell_lanes.specs.Padding.{or_edge, end_or, with_ends, new_at}
 use Rattle.cell_lanes.specs.Window.{sum_at}
 use Rattle.cell_lanes.proofs.LaneFacts.{back}

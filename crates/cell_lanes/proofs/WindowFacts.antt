@@ -1,17 +1,16 @@
 -- Sums over a window, and how great they are.
-use Rattle.std.proofs.Common.{◌≡◌, ◌∙◌, refl, sym, ap, ℕ, zero, suc, ◌+◌, ◌*◌, ◌≤◌, ◌<◌, ◌^◌, ℤ, pos, ◌+ℤ◌, ◌*ℤ◌, unsigned_abs, List, map, length, get_or, set, get_or-set_same, get_or-set_other, subst, ◌-◌, int_div, to_z, of_z, w64, inl, inr, arith}
+use Rattle.std.proofs.Common.{◌≡◌, ◌∙◌, sym, ap, ℕ, ◌+◌, ◌*◌, ◌≤◌, ◌<◌, ℤ, pos, ◌+ℤ◌, ◌*ℤ◌, unsigned_abs, List, map, length, get_or, set, get_or-set_same, get_or-set_other, subst, ◌-◌, int_div, to_z, of_z, w64, inl, inr, arith}
 use Rattle.std.specs.Simd.Lanes.{zip2, chunk, put_chunk, Each1}
 use Rattle.std.proofs.lemmas.Simd.{get_or-put_chunk_below, get_or-put_chunk_at}
 use Rattle.std.specs.List.{All}
-use Rattle.std.proofs.lemmas.Int.{ints}
 use Rattle.std.proofs.lemmas.Bool.{cases_lt}
 use Rattle.std.proofs.lemmas.Nat.{mul-le}
-use Rattle.std.proofs.lemmas.List.{get_or_past}
+use Rattle.std.proofs.lemmas.List.{get_or_past, get_or-map}
 use Rattle.std.proofs.lemmas.List.Elements.{All-get_or}
 use Rattle.stencil_def.specs.Limits.{IsWeight, IsValue}
-use Rattle.stencil_def.specs.Square.{Square, side, weight}
+use Rattle.stencil_def.specs.Square.{Square, weight}
 use Rattle.stencil_def.specs.Step.{sum_below, clamped}
-use Rattle.stencil_def.proofs.SumFacts.{sum-none, sum-more, sum-small}
+use Rattle.stencil_def.proofs.SumFacts.{sum-more, sum-small}
 use Rattle.cell_lanes.specs.Window.{met, row_sum_at, sum_at}
 use Rattle.cell_lanes.specs.Lanes.{four}
 use Rattle.cell_lanes.specs.Sizes.{IsSum, IsRowSum}
@@ -158,24 +157,11 @@ done-one w window width n out sum done size e small x less =
     (get_or-set_same out n (to_z w64 (of_z w64 sum)) (pos 0) size ∙ is, subst IsSum e small) in
     below-or x n below there
 
--- the first n new values are in place, and in range
-abbrev pub NewBelow : Square → List ℤ → ℕ → ℤ → List ℤ → ℕ → Type 0
-NewBelow w window width d out n =
-    (x : ℕ) → x < n → (get_or out x (pos 0) ≡ clamped (int_div (sum_at w window width x) d)) × IsValue (get_or out x (pos 0))
-
--- one more of them
-pub new-one : (w : Square) (window : List ℤ) (width n : ℕ) (d : ℤ) (out : List ℤ) (sum value : ℤ)
-    → NewBelow w window width d out n → n < length out → sum ≡ sum_at w window width n → value ≡ clamped (int_div sum d) → IsValue value
-    → NewBelow w window width d (set out n (to_z w64 (of_z w64 value))) (n + 1)
-new-one w window width n d out sum value done size e f small x less =
-    let new = to_z w64 (of_z w64 value) in
-    let same-value : new ≡ value = back value (omega arith) in
-    let is : new ≡ clamped (int_div (sum_at w window width n) d) = same-value ∙ (f ∙ ap (λ z. clamped (int_div z d)) e) in
-    let below : x < n → (get_or (set out n new) x (pos 0) ≡ clamped (int_div (sum_at w window width x) d)) × IsValue (get_or (set out n new) x (pos 0)) =
-    λ h. let other = get_or-set_other out n x new (pos 0) (omega arith) in (other ∙ (done x h).0, subst IsValue (sym other) (done x h).1) in
-    let there : n ≤ x → (get_or (set out n new) x (pos 0) ≡ clamped (int_div (sum_at w window width x) d)) × IsValue (get_or (set out n new) x (pos 0)) =
-    λ h. let same : n ≡ x = omega arith in
-    let stored = get_or-set_same out n new (pos 0) size in
-    subst (λ m. (get_or (set out n new) m (pos 0) ≡ clamped (int_div (sum_at w window width m) d)) × IsValue (get_or (set out n new) m (pos 0))) same
-    (stored ∙ is, subst IsValue (sym (stored ∙ same-value)) small) in
-    below-or x n below there
+-- the sums of a row, divided
+pub new-at : (w : Square) (window : List ℤ) (width n x : ℕ) (d : ℤ) (sums new : List ℤ) → length sums ≡ n
+    → ((k : ℕ) → k < n → get_or sums k (pos 0) ≡ sum_at w window width k)
+    → new ≡ map (λ sum. clamped (int_div sum d)) sums
+    → x < n → get_or new x (pos 0) ≡ clamped (int_div (sum_at w window width x) d)
+new-at w window width n x d sums new long each made less =
+    ap (λ l. get_or l x (pos 0)) made
+    ∙ (get_or-map (λ s. clamped (int_div s d)) sums x (pos 0) (pos 0) (omega arith) ∙ ap (λ s. clamped (int_div s d)) (each x less))

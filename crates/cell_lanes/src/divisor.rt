@@ -46,18 +46,6 @@ impl Divisor {
         }
     }
 
-    /// The same divisor.
-    #[inline(always)]
-    pub(crate) fn copy(&self) -> Divisor
-        ensures { result ≡ self.now }
-    {
-        Divisor {
-            value: self.value,
-            shift: self.shift,
-            reciprocal: self.reciprocal,
-        }
-    }
-
     /// The size of a sum, divided and rounded down.
     #[inline(always)]
     fn rounded_down(&self, size: u64) -> u64

@@ -198,34 +198,9 @@ pub fn window_sums(window: &[i64], width: u32, weights: &Weights, out: &mut [i64
     }
 }
 
-/// The new values of all cells of the row, one by one.
-#[inline(always)]
-fn new_at_reach(
-    window: &[i64],
-    width: usize,
-    weights: &Weights,
-    reach: u32,
-    divisor: &Divisor,
-    out: &mut [i64],
-)
-    requires window { length window.now ≡ side weights.now * width }
-    requires values { All IsValue window.now }
-    requires reach { reach ≡ weights.now.reach }
-    requires near { reach ≤ 2 }
-    requires out { length out.old + 2 * reach ≡ width }
-    ensures values { (x : ℕ) → x < length out.old →
-        slice_index_or out.new x (pos 0) ≡ clamped (int_div (sum_at weights.now window.now width x) divisor.now) }
-    ensures limits { All IsValue out.new }
-{
-    for x in 0..out.len() {
-        out[x] = divisor.quotient(sum_of_one(window, width, weights, reach, x));
-    }
-}
-
 /// The new values of a row: its weighted sums, divided with truncation toward zero and clamped to -10^12 to 10^12.
 ///
-/// The window and `out` are those of `window_sums`. The cells are computed one by one: on processors whose vectors
-/// have no product of 64 bits, which programs are built for, that takes fewer steps than vectors do.
+/// The window and `out` are those of `window_sums`.
 pub fn new_cells(window: &[i64], width: u32, weights: &Weights, divisor: &Divisor, out: &mut [i64])
     requires window { length window.now ≡ side weights.now * width }
     requires values { All IsValue window.now }
@@ -234,12 +209,6 @@ pub fn new_cells(window: &[i64], width: u32, weights: &Weights, divisor: &Diviso
         slice_index_or out.new x (pos 0) ≡ clamped (int_div (sum_at weights.now window.now width x) divisor.now) }
     ensures limits { All IsValue out.new }
 {
-    // Copies of their own, which no write to the cells can change, stay in registers.
-    let own = *weights;
-    let by = divisor.copy();
-    if own.reach() == 1 {
-        new_at_reach(window, width as usize, &own, 1, &by, out);
-    } else {
-        new_at_reach(window, width as usize, &own, 2, &by, out);
-    }
+    window_sums(window, width, weights, out);
+    divisor.quotients(out);
 }

@@ -2,7 +2,7 @@
 
 ghost use Rattle.stencil_def.specs.Limits.{IsDiv};
 
-use crate::{Divisor, run_lanes, window_sums};
+use crate::{Divisor, new_cells, run_lanes, window_sums};
 use std::alloc::Global;
 use std::process::Abort;
 use stencil_def::{Around, Grid, Rule, Weights, run_plain};
@@ -22,6 +22,9 @@ const MIXED: [i64; 9] = [3, -1, 4, -1, 5, -9, 2, 6, -5];
 const MANY_MIXED: [i64; 25] = [
     3, -1, 4, -1, 5, -9, 2, 6, -5, 3, 5, -8, 9, 7, -9, 3, 2, -3, 8, 4, -6, 2, 6, -4, 3,
 ];
+
+/// Three rows of a grid whose edge is 10.
+const ROUND_TEN: [i64; 15] = [10, 1, 2, 3, 10, 10, 4, 5, 6, 10, 10, 7, 8, 9, 10];
 
 /// A grid of this many rows and columns with values of both signs.
 fn uneven(rt: &impl Abort, alloc: Global, rows: u32, cols: u32) -> Grid {
@@ -83,13 +86,10 @@ fn the_sums_of_the_four_neighbours(rt: HostRuntime) {
         &mut sums,
     );
     assert_eq!(rt; sums, [13, 20, 17]);
-    window_sums(
-        &[10, 1, 2, 3, 10, 10, 4, 5, 6, 10, 10, 7, 8, 9, 10],
-        5,
-        &weights,
-        &mut sums,
-    );
+    window_sums(&ROUND_TEN, 5, &weights, &mut sums);
     assert_eq!(rt; sums, [23, 20, 27]);
+    new_cells(&ROUND_TEN, 5, &weights, &Divisor::new(4), &mut sums);
+    assert_eq!(rt; sums, [5, 5, 6]);
 }
 
 #[test]

@@ -1,4 +1,4 @@
-use Rattle.std.proofs.Common.{◌≡◌, ◌∙◌, ◌+◌, ◌*◌, ◌≤◌, ap, pos, get_or, length, arith}
+use Rattle.std.proofs.Common.{◌≡◌, ◌∙◌, ◌*◌, ap, length, arith}
 use Rattle.stencil_def.specs.Plane.{cell}
 use Rattle.cell_lanes.specs.Padding.{with_ends}
 use Rattle.cell_lanes.proofs.PaddedFacts.{rows-next, start-is, start-room, copied-row-is, all-put}

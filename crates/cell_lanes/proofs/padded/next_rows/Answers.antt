@@ -1,4 +1,4 @@
-use Rattle.std.proofs.Common.{◌≡◌, ◌∙◌, ◌+◌, ◌*◌, ◌≤◌, refl, ap, pos, get_or, length, arith}
+use Rattle.std.proofs.Common.{◌≡◌, ◌∙◌, ◌*◌, refl, length}
 use Rattle.stencil_def.specs.Step.{new_cell}
 use Rattle.cell_lanes.specs.Padding.{with_ends}
 use Rattle.cell_lanes.proofs.PaddedFacts.{rows-next, start-is, start-room, next-row-is, window-is, all-put}

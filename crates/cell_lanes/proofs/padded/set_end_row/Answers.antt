@@ -1,4 +1,4 @@
-use Rattle.std.proofs.Common.{◌≡◌, ◌∙◌, ◌+◌, ◌*◌, ◌<◌, ap, length, arith}
+use Rattle.std.proofs.Common.{◌≡◌, ◌∙◌, ◌+◌, ◌*◌, ◌<◌, ap, arith}
 use Rattle.std.proofs.lemmas.Nat.{mul-add-lt}
 use Rattle.cell_lanes.specs.Padding.{with_ends}
 use Rattle.cell_lanes.proofs.PaddedFacts.{row-set-next}

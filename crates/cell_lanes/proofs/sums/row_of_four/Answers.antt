@@ -1,13 +1,10 @@
-use Rattle.std.proofs.Common.{◌≡◌, ◌∙◌, ℕ, ◌+◌, ◌*◌, ◌≤◌, ◌<◌, ◌^◌, pos, length, unsigned_abs, refl, sym, ap, subst, map, to_z, of_z, w64, get_or, arith}
-use Rattle.std.specs.Simd.Lanes.{Each1, chunk}
+use Rattle.std.proofs.Common.{◌≡◌, ◌∙◌, ℕ, ◌+◌, ◌*◌, ◌≤◌, pos, length, unsigned_abs, refl, sym, ap, subst, arith}
 use Rattle.std.proofs.lemmas.List.{length-map}
 use Rattle.std.proofs.lemmas.Simd.{length-chunk}
 use Rattle.stencil_def.specs.Limits.{IsValue}
 use Rattle.stencil_def.proofs.SumFacts.{sum-none}
-use Rattle.cell_lanes.specs.Lanes.{four}
 use Rattle.cell_lanes.specs.Window.{met, row_sum_at}
 use Rattle.cell_lanes.specs.Sizes.{IsSum, IsRowSum}
-use Rattle.cell_lanes.proofs.LaneFacts.{product-size}
 use Rattle.cell_lanes.proofs.FourFacts.{four-same, four-all, loaded-back, products-back}
 use Rattle.cell_lanes.proofs.WindowFacts.{value-at, met-four, row-more, row-next, row_below, room}
 use Rattle.cell_lanes.proofs.sums.row_of_four.Goals as goal

@@ -1,6 +1,5 @@
-use Rattle.std.proofs.Common.{◌≡◌, ◌∙◌, ◌+◌, ◌*◌, pos, length, sym, ap, get_or, to_z, w64, arith}
-use Rattle.stencil_def.specs.Limits.{IsValue}
-use Rattle.stencil_def.proofs.SumFacts.{sum-none, add-fits, add-value, add-small, value-exact}
+use Rattle.std.proofs.Common.{sym, to_z, w64, arith}
+use Rattle.stencil_def.proofs.SumFacts.{sum-none, add-fits, add-value, add-small}
 use Rattle.cell_lanes.proofs.WindowFacts.{product-met}
 use Rattle.cell_lanes.proofs.sums.row_of_one.Goals as goal
 

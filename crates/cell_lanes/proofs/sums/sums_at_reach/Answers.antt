@@ -1,8 +1,8 @@
-use Rattle.std.proofs.Common.{◌≡◌, ◌∙◌, ℕ, ◌+◌, ◌*◌, ◌<◌, ◌≤◌, pos, ℤ, length, subst, sym, map, to_z, of_z, w64, get_or, arith}
+use Rattle.std.proofs.Common.{◌+◌, ◌≤◌, pos, length, subst, sym, map, to_z, of_z, w64, arith}
 use Rattle.std.proofs.lemmas.Simd.{length-put_chunk}
 use Rattle.std.proofs.lemmas.List.Elements.{All-from_get_or}
 use Rattle.cell_lanes.specs.Sizes.{IsSum}
-use Rattle.cell_lanes.proofs.WindowFacts.{DoneBelow, done-four, done-one}
+use Rattle.cell_lanes.proofs.WindowFacts.{done-four, done-one}
 use Rattle.cell_lanes.proofs.sums.sums_at_reach.Goals as goal
 
 pub loop-out-init : goal.loop-out-init

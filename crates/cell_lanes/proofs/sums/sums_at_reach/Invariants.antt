@@ -1,4 +1,4 @@
-use Rattle.std.proofs.Common.{◌≡◌, ◌-◌, ◌≤◌, length}
+use Rattle.std.proofs.Common.{◌-◌, ◌≤◌, length}
 use Rattle.cell_lanes.proofs.WindowFacts.{DoneBelow}
 use Rattle.cell_lanes.proofs.sums.sums_at_reach.Given as goal
 

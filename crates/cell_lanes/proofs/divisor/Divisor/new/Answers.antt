@@ -1,5 +1,5 @@
-use Rattle.std.proofs.Common.{◌≡◌, ap, sym, subst, pos, ℕ, ◌≤◌, ◌<◌, ◌+◌, ◌-◌, ◌*◌, ◌/◌, ◌^◌, Fits, w64, arith, unsigned_abs, to_z, of_z}
-use Rattle.cell_lanes.proofs.ReciprocalFacts.{cast-size, made-fits, made-reciprocal, scale-is, divisor-back, divisor-is}
+use Rattle.std.proofs.Common.{sym, subst, ◌<◌, ◌-◌, ◌/◌, w64, unsigned_abs, to_z, of_z}
+use Rattle.cell_lanes.proofs.ReciprocalFacts.{cast-size, made-fits, scale-is}
 use Rattle.cell_lanes.proofs.divisor.Divisor.new.Goals as goal
 
 pub overflow_cast-result-2 : goal.overflow_cast-result-2

@@ -1,4 +1,4 @@
-use Rattle.std.proofs.Common.{◌≡◌, ℕ, ◌<◌, ◌≤◌, pos, length, get_or, int_div}
+use Rattle.std.proofs.Common.{◌≡◌, ℕ, ◌<◌, ◌≤◌, pos, get_or, int_div}
 use Rattle.stencil_def.specs.Limits.{IsValue}
 use Rattle.stencil_def.specs.Step.{clamped}
 use Rattle.cell_lanes.proofs.divisor.Divisor.quotients.Given as goal

@@ -1,4 +1,4 @@
-use Rattle.std.proofs.Common.{◌≡◌, ap, pos}
+use Rattle.std.proofs.Common.{ap, pos}
 use Rattle.cell_lanes.proofs.ReciprocalFacts.{divided}
 use Rattle.cell_lanes.proofs.divisor.Divisor.rounded_down.Goals as goal
 
