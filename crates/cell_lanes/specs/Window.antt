@@ -1,5 +1,5 @@
 -- A window: the rows round one row of a grid, each with the reach of the weights more columns at both sides.
-use Rattle.std.specs.Prelude.{ℕ, ◌+◌, ◌*◌, ◌<◌, ℤ, pos, ◌≤ℤ◌, ◌*ℤ◌, List, slice_index_or}
+use Rattle.std.specs.Prelude.{ℕ, ◌+◌, ◌*◌, ℤ, pos, ◌*ℤ◌, List, slice_index_or}
 use Rattle.stencil_def.specs.Square.{Square, side, weight}
 use Rattle.stencil_def.specs.Step.{sum_below}
 
@@ -14,7 +14,3 @@ row_sum_at w window width x a = sum_below (side w) (λ b. weight w a b *ℤ met 
 -- the sum over all weights, each times the value that it meets
 abbrev pub sum_at : Square → List ℤ → ℕ → ℕ → ℤ
 sum_at w window width x = sum_below (side w) (λ a. row_sum_at w window width x a)
-
--- no weight is negative
-abbrev pub HasNoNegative : Square → Type 0
-HasNoNegative w = (a b : ℕ) → a < side w → b < side w → pos 0 ≤ℤ weight w a b

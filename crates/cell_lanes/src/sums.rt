@@ -1,13 +1,13 @@
 //! The weighted sums of a row.
 
-ghost use Rattle.std.specs.Prelude.{◌≡◌, ℕ, ◌+◌, ◌*◌, ◌<◌, ◌≤◌, ◌*ℤ◌, pos, int_div, ◌≤ℤ◌, IsTrue, length, slice_index_or, unsigned_abs};
+ghost use Rattle.std.specs.Prelude.{◌≡◌, ℕ, ◌+◌, ◌*◌, ◌<◌, ◌≤◌, ◌*ℤ◌, pos, int_div, length, slice_index_or, unsigned_abs};
 ghost use Rattle.std.specs.List.{All};
 ghost use Rattle.stencil_def.specs.Limits.{IsWeight, IsValue};
-ghost use Rattle.stencil_def.specs.Square.{side, weight};
+ghost use Rattle.stencil_def.specs.Square.{side};
 ghost use Rattle.stencil_def.specs.Step.{clamped};
 ghost use Rattle.cell_lanes.specs.Lanes.{four};
 ghost use Rattle.cell_lanes.specs.Sizes.{IsSum, IsRowSum};
-ghost use Rattle.cell_lanes.specs.Window.{HasNoNegative, row_sum_at, sum_at};
+ghost use Rattle.cell_lanes.specs.Window.{row_sum_at, sum_at};
 
 use crate::Divisor;
 use crate::lanes::{LANES, plus, times};
@@ -23,7 +23,6 @@ fn row_of_four(
     reach: u32,
     x: usize,
     a: u32,
-    no_negative: bool,
 ) -> i64x4
     requires window { length window.now ≡ side weights.now * width }
     requires values { All IsValue window.now }
@@ -31,7 +30,6 @@ fn row_of_four(
     requires near { reach ≤ 2 }
     requires column { x + 4 + 2 * reach ≤ width }
     requires row { a < side weights.now }
-    requires sign { IsTrue no_negative → HasNoNegative weights.now }
     ensures sums { result ≡ four (λ i. row_sum_at weights.now window.now width (x + i) a) }
     ensures limits { (i : ℕ) → IsRowSum (row_sum_at weights.now window.now width (x + i) a) }
 {
@@ -39,36 +37,25 @@ fn row_of_four(
     let mut sums = i64x4::splat(0);
     for b in 0..2 * reach + 1 {
         let values = i64x4::from_slice(&window[start + b as usize..]);
-        sums = plus(sums, times(weights.at(a, b), no_negative, values));
+        sums = plus(sums, times(weights.at(a, b), values));
     }
     sums
 }
 
 /// The sums over the window, of the cells in columns `x` to `x + 3`.
 #[inline(always)]
-fn sums_of_four(
-    window: &[i64],
-    width: usize,
-    weights: &Weights,
-    reach: u32,
-    x: usize,
-    no_negative: bool,
-) -> i64x4
+fn sums_of_four(window: &[i64], width: usize, weights: &Weights, reach: u32, x: usize) -> i64x4
     requires window { length window.now ≡ side weights.now * width }
     requires values { All IsValue window.now }
     requires reach { reach ≡ weights.now.reach }
     requires near { reach ≤ 2 }
     requires column { x + 4 + 2 * reach ≤ width }
-    requires sign { IsTrue no_negative → HasNoNegative weights.now }
     ensures sums { result ≡ four (λ i. sum_at weights.now window.now width (x + i)) }
     ensures limits { (i : ℕ) → IsSum (sum_at weights.now window.now width (x + i)) }
 {
     let mut sums = i64x4::splat(0);
     for a in 0..2 * reach + 1 {
-        sums = plus(
-            sums,
-            row_of_four(window, width, weights, reach, x, a, no_negative),
-        );
+        sums = plus(sums, row_of_four(window, width, weights, reach, x, a));
     }
     sums
 }
@@ -122,53 +109,20 @@ fn sum_of_one(window: &[i64], width: usize, weights: &Weights, reach: u32, x: us
     sum
 }
 
-/// Whether row `a` of the weights has no negative one.
-fn row_has_no_negative(weights: &Weights, a: u32) -> bool
-    requires { a < side weights.now }
-    ensures { IsTrue result → (b : ℕ) → b < side weights.now → pos 0 ≤ℤ weight weights.now a b }
-{
-    for b in 0..2 * weights.reach() + 1 {
-        if weights.at(a, b) < 0 {
-            return false;
-        }
-    }
-    true
-}
-
-/// Whether no weight is negative.
-fn has_no_negative(weights: &Weights) -> bool
-    ensures { IsTrue result → HasNoNegative weights.now }
-{
-    for a in 0..2 * weights.reach() + 1 {
-        if !row_has_no_negative(weights, a) {
-            return false;
-        }
-    }
-    true
-}
-
 /// The sums of all cells of the row: four at a time, and then one by one.
 #[inline(always)]
-fn sums_at_reach(
-    window: &[i64],
-    width: usize,
-    weights: &Weights,
-    reach: u32,
-    no_negative: bool,
-    out: &mut [i64],
-)
+fn sums_at_reach(window: &[i64], width: usize, weights: &Weights, reach: u32, out: &mut [i64])
     requires window { length window.now ≡ side weights.now * width }
     requires values { All IsValue window.now }
     requires reach { reach ≡ weights.now.reach }
     requires near { reach ≤ 2 }
     requires out { length out.old + 2 * reach ≡ width }
-    requires sign { IsTrue no_negative → HasNoNegative weights.now }
     ensures sums { (x : ℕ) → x < length out.old → slice_index_or out.new x (pos 0) ≡ sum_at weights.now window.now width x }
     ensures limits { All IsSum out.new }
 {
     let mut x = 0;
     while out.len() - x >= LANES {
-        sums_of_four(window, width, weights, reach, x, no_negative).copy_to_slice(&mut out[x..]);
+        sums_of_four(window, width, weights, reach, x).copy_to_slice(&mut out[x..]);
         x += LANES;
     }
     for rest in x..out.len() {
@@ -190,11 +144,10 @@ pub fn window_sums(window: &[i64], width: u32, weights: &Weights, out: &mut [i64
 {
     // A copy of its own, which no write to the sums can change, stays in registers.
     let own = *weights;
-    match (own.reach() == 1, has_no_negative(&own)) {
-        (true, true) => sums_at_reach(window, width as usize, &own, 1, true, out),
-        (true, false) => sums_at_reach(window, width as usize, &own, 1, false, out),
-        (false, true) => sums_at_reach(window, width as usize, &own, 2, true, out),
-        (false, false) => sums_at_reach(window, width as usize, &own, 2, false, out),
+    if own.reach() == 1 {
+        sums_at_reach(window, width as usize, &own, 1, out);
+    } else {
+        sums_at_reach(window, width as usize, &own, 2, out);
     }
 }
 
