@@ -1,0 +1,69 @@
+-- The padded grid after a number of steps.
+use Rattle.std.proofs.Common.{◌≡◌, ◌∙◌, refl, sym, ap, subst, ℕ, zero, suc, ◌+◌, ◌*◌, ◌<◌, ℤ, List, length, Result, Ok, Err, IfOk, arith}
+use Rattle.std.proofs.lemmas.List.FromFn.{length-map-range_with_len}
+use Rattle.stencil_def.specs.declared.rule.Rule.{Rule}
+use Rattle.stencil_def.specs.Plane.{Plane, IsPlane, cell}
+use Rattle.stencil_def.specs.Step.{new_cell, next_plane, fold_plane}
+use Rattle.stencil_def.proofs.StepFacts.{next-cells, fold-none, fold-more, new_at}
+use Rattle.cell_lanes.specs.Padding.{with_ends, end_or, IsPadded}
+use Rattle.cell_lanes.proofs.RowFacts.{end-same}
+
+next-rows : (g : Plane) (rule : Rule) → (next_plane g rule).rows ≡ g.rows
+unfolding next_plane
+next-rows g rule = refl
+
+next-cols : (g : Plane) (rule : Rule) → (next_plane g rule).cols ≡ g.cols
+unfolding next_plane
+next-cols g rule = refl
+
+next-length : (g : Plane) (rule : Rule) → length (next_plane g rule).values ≡ g.rows * g.cols
+unfolding next_plane
+next-length g rule = length-map-range_with_len (new_at g rule) 0 (g.rows * g.cols)
+
+pub fold-rows : (g : Plane) (rule : Rule) (n : ℕ) → (fold_plane g rule n).rows ≡ g.rows
+unfolding fold_plane
+fold-rows g rule zero = refl
+fold-rows g rule (suc n) = next-rows (fold_plane g rule n) rule ∙ fold-rows g rule n
+
+pub fold-cols : (g : Plane) (rule : Rule) (n : ℕ) → (fold_plane g rule n).cols ≡ g.cols
+unfolding fold_plane
+fold-cols g rule zero = refl
+fold-cols g rule (suc n) = next-cols (fold_plane g rule n) rule ∙ fold-cols g rule n
+
+pub fold-length : (g : Plane) (rule : Rule) (n : ℕ) → IsPlane g → length (fold_plane g rule n).values ≡ g.rows * g.cols
+unfolding fold_plane
+fold-length g rule zero p = p.length
+fold-length g rule (suc n) p =
+    next-length (fold_plane g rule n) rule ∙ (ap (λ k. k * (fold_plane g rule n).cols) (fold-rows g rule n) ∙ ap (λ k. g.rows * k) (fold-cols g rule n))
+
+-- padded by the new cells is padded by the cells of the next grid
+pub padded-next : (g : Plane) (rule : Rule) (rows cols : ℕ) (values : List ℤ) → g.rows ≡ rows → g.cols ≡ cols → 0 < rows → 0 < cols
+    → IsPadded (new_cell g rule) rule rows cols values → IsPadded (cell (next_plane g rule)) rule rows cols values
+padded-next g rule rows cols values e f some-rows some-cols padded y x less lt =
+    let same : (row : ℕ) → row < rows → (col : ℕ) → col < cols → new_cell g rule row col ≡ cell (next_plane g rule) row col =
+    λ row h col l. sym (next-cells g rule row col (omega (arith, h, e)) (omega (arith, l, f))) in
+    padded y x less lt
+    ∙ end-same rule rows y (λ row. end_or rule cols (new_cell g rule row) x) (λ row. end_or rule cols (cell (next_plane g rule) row) x) some-rows
+    (λ row h. end-same rule cols x (new_cell g rule row) (cell (next_plane g rule) row) some-cols (same row h))
+
+-- the step of the run
+pub padded-step : (g : Plane) (rule : Rule) (n rows cols : ℕ) (values : List ℤ) → g.rows ≡ rows → g.cols ≡ cols → 0 < rows → 0 < cols
+    → IsPadded (new_cell (fold_plane g rule n) rule) rule rows cols values → IsPadded (cell (fold_plane g rule (n + 1))) rule rows cols values
+padded-step g rule n rows cols values e f some-rows some-cols padded =
+    subst (λ p. IsPadded (cell p) rule rows cols values) (sym (fold-more g rule n))
+    (padded-next (fold_plane g rule n) rule rows cols values (fold-rows g rule n ∙ e) (fold-cols g rule n ∙ f) some-rows some-cols padded)
+
+-- the first padded grid, with the sizes that the code reads
+pub padded-first : (g : Plane) (rule : Rule) (rows cols : ℕ) (values : List ℤ) → rows ≡ g.rows → cols ≡ g.cols
+    → IsPadded (cell g) rule g.rows g.cols values → IsPadded (cell (fold_plane g rule 0)) rule rows cols values
+padded-first g rule rows cols values e f padded =
+    subst (λ p. IsPadded (cell p) rule rows cols values) (sym (fold-none g rule))
+    (subst (λ n. IsPadded (cell g) rule n cols values) (sym e) (subst (λ n. IsPadded (cell g) rule g.rows n values) (sym f) padded))
+
+pub length-first : (g : Plane) (rule : Rule) (rows cols size : ℕ) → rows ≡ g.rows → cols ≡ g.cols
+    → size ≡ with_ends rule g.rows * with_ends rule g.cols → size ≡ with_ends rule rows * with_ends rule cols
+length-first g rule rows cols size e f long = long ∙ (ap (λ n. with_ends rule n * with_ends rule g.cols) (sym e) ∙ ap (λ n. with_ends rule rows * with_ends rule n) (sym f))
+
+pub if-ok : {T E : Type 0} (P Q : T → Type 0) (r : Result T E) → ((x : T) → P x → Q x) → IfOk r P → IfOk r Q
+if-ok P Q (Ok x) f h = f x h
+if-ok P Q (Err e) f h = tt

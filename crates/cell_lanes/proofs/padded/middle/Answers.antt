@@ -1,0 +1,34 @@
+use Rattle.std.proofs.Common.{◌≡◌, ◌∙◌, ◌+◌, ◌-◌, ◌*◌, refl, sym, ap, pos, get_or, take, drop, length, arith}
+use Rattle.cell_lanes.specs.Padding.{with_ends}
+use Rattle.cell_lanes.proofs.PaddedFacts.{taken-next, start-is, plane-same}
+use Rattle.cell_lanes.proofs.padded.middle.Goals as goal
+
+pub loop-row-preserved : goal.loop-row-preserved
+loop-row-preserved c =
+    let rule = c.args.rule.now in
+    let few = c.loop-row-test.true in
+    let r = c.reach-reach.ensures.value in
+    let part : c.start_of.result + c.reach-reach.result + c.args.cols - (c.start_of.result + c.reach-reach.result) ≡ c.args.cols = omega arith in
+    record {
+      rows = c.set_row.ensures.rows ∙ c.loop-row.invariant.rows;
+      cols = c.set_row.ensures.cols ∙ c.loop-row.invariant.cols;
+      plane = c.set_row.ensures.limits;
+      taken = λ g e padded.
+          taken-next g rule c.args.rows c.args.cols c.loop-row.row (c.start_of.result + c.reach-reach.result) c.args.values.now c.loop-row.grid c.set_row.new.grid e c.loop-row.invariant.cols
+          padded few
+          (ap (λ n. n + c.reach-reach.result) (start-is rule c.loop-row.row c.reach-reach.result c.args.cols c.args.cols c.start_of.result c.start_of.ensures r refl)
+          ∙ ap (λ n. (rule.weights.reach + c.loop-row.row) * with_ends rule c.args.cols + n) r)
+          (c.loop-row.invariant.taken g e padded)
+          (λ col h. c.set_row.ensures.row col h ∙ ap (λ n. get_or (take n (drop (c.start_of.result + c.reach-reach.result) c.args.values.now)) col (pos 0)) part)
+          c.set_row.ensures.below;
+    }
+
+pub returns-clause-cells : goal.returns-clause-cells
+returns-clause-cells c g e f size padded =
+    let end = c.loop-row-test.false in
+    let long : length c.loop-row.grid.values ≡ c.args.rows * c.args.cols =
+    c.loop-row.invariant.plane.length ∙ (ap (λ n. n * c.loop-row.grid.cols) c.loop-row.invariant.rows ∙ ap (λ n. c.args.rows * n) c.loop-row.invariant.cols) in
+    let last : c.loop-row.row ≡ c.args.rows = omega arith in
+    let all : c.args.rows * c.args.cols ≡ c.loop-row.row * g.cols = ap (λ n. n * c.args.cols) (sym last) ∙ ap (λ n. c.loop-row.row * n) (sym f) in
+    plane-same g c.loop-row.grid (c.loop-row.invariant.rows ∙ sym e) (c.loop-row.invariant.cols ∙ sym f) (long ∙ sym size)
+    (λ k h. c.loop-row.invariant.taken g f padded k (omega (arith, h, long, all)))

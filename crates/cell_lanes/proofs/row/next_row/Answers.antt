@@ -1,0 +1,18 @@
+use Rattle.std.proofs.Common.{◌≡◌, ◌∙◌, ◌+◌, ◌≤◌, length, arith}
+use Rattle.cell_lanes.proofs.RowFacts.{row-cells, part-length, part-at, new-values}
+use Rattle.cell_lanes.specs.Padding.{new_at, with_ends}
+use Rattle.cell_lanes.proofs.row.next_row.Goals as goal
+
+pub returns-clause-cells : goal.returns-clause-cells
+returns-clause-cells c =
+    let e = c.reach-reach.ensures.value in
+    let whole = c.requires.row in
+    let room : c.reach-reach.result + c.args.cols ≤ length c.args.row.now = omega (arith, e, whole) in
+    let part = part-length c.args.row.now c.reach-reach.result c.args.cols room in
+    let long : length c.new_cells.new.out ≡ c.args.cols = c.new_cells.auto.out ∙ part in
+    let value = new-values c.args.rule.now c.args.window.now c.args.cols c.reach-reach.result c.args.divisor.now c.new_cells.new.out e c.requires.divisor
+    (λ x h. c.new_cells.ensures.values x (omega (arith, part, h))) in
+    row-cells c.args.rule.now c.args.cols c.reach-reach.result (λ col. new_at c.args.rule.now c.args.window.now (with_ends c.args.rule.now c.args.cols) col)
+    _ c.set_ends.new.row c.set_ends-2.new.row c.requires.cols.0 e
+    (λ col h. part-at c.args.row.now c.new_cells.new.out _ c.reach-reach.result col (omega (arith, room)) (omega (arith, long, h)) ∙ value col h)
+    c.set_ends.ensures.ends c.set_ends.ensures.above c.set_ends-2.ensures.ends c.set_ends-2.ensures.below

@@ -1,0 +1,8 @@
+use Rattle.std.proofs.Common.{length}
+use Rattle.cell_lanes.proofs.WindowFacts.{new-at}
+use Rattle.cell_lanes.proofs.sums.new_cells.Goals as goal
+
+pub returns-clause-values : goal.returns-clause-values
+returns-clause-values c x h =
+    new-at c.args.weights.now c.args.window.now c.args.width (length c.args.out.now) x c.args.divisor.now c.window_sums.new.out c.quotients.new.sums c.window_sums.auto.out
+    c.window_sums.ensures.sums c.quotients.ensures.values h

@@ -1,0 +1,46 @@
+use Rattle.std.proofs.Common.{◌+◌, ◌≤◌, pos, length, subst, sym, map, to_z, of_z, w64, arith}
+use Rattle.std.proofs.lemmas.Simd.{length-put_chunk}
+use Rattle.std.proofs.lemmas.List.Elements.{All-from_get_or}
+use Rattle.cell_lanes.specs.Sizes.{IsSum}
+use Rattle.cell_lanes.proofs.WindowFacts.{done-four, done-one}
+use Rattle.cell_lanes.proofs.sums.sums_at_reach.Goals as goal
+
+pub loop-out-init : goal.loop-out-init
+loop-out-init c = (omega arith, λ x h. absurd (omega arith))
+
+pub overflow_sub-out : goal.overflow_sub-out
+overflow_sub-out c = c.loop-out.invariant.0
+
+pub loop-out-smaller : goal.loop-out-smaller
+loop-out-smaller c =
+    let long = length-put_chunk c.loop-out.x c.loop-out.out (map (to_z w64) (map (of_z w64) c.sums_of_four.result)) in
+    let room = c.loop-out-test.true in
+    omega (arith, long, room)
+
+pub loop-out-preserved : goal.loop-out-preserved
+loop-out-preserved c =
+    let long = length-put_chunk c.loop-out.x c.loop-out.out (map (to_z w64) (map (of_z w64) c.sums_of_four.result)) in
+    let room = c.loop-out-test.true in
+    let size : c.loop-out.x + 4 ≤ length c.loop-out.out = omega arith in (
+      rw long size,
+      done-four c.args.weights.now c.args.window.now c.args.width c.loop-out.x c.loop-out.out c.sums_of_four.result c.loop-out.invariant.1 size c.sums_of_four.ensures.sums c.sums_of_four.ensures.limits,
+    )
+
+pub loop-rest-init : goal.loop-rest-init
+loop-rest-init c = c.loop-out.invariant.1
+
+pub loop-rest-preserved : goal.loop-rest-preserved
+loop-rest-preserved c =
+    let few = c.loop-rest-test.true in
+    done-one c.args.weights.now c.args.window.now c.args.width c.loop-rest.rest c.loop-rest.out c.sum_of_one.result c.loop-rest.invariant (omega arith) c.sum_of_one.ensures.value c.sum_of_one.ensures.limits
+
+pub returns-clause-sums : goal.returns-clause-sums
+returns-clause-sums c x h =
+    let end = c.loop-rest-test.false in
+    (c.loop-rest.invariant x (omega arith)).0
+
+pub returns-clause-limits : goal.returns-clause-limits
+returns-clause-limits c =
+    let end = c.loop-rest-test.false in
+    All-from_get_or IsSum c.loop-rest.out (pos 0)
+    (λ x h. let done = c.loop-rest.invariant x (omega arith) in subst IsSum (sym done.0) done.1)

@@ -1,0 +1,5 @@
+pub mod Lanes
+pub mod Padding
+pub mod Reciprocal
+pub mod Sizes
+pub mod Window

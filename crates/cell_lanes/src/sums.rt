@@ -1,0 +1,167 @@
+//! The weighted sums of a row.
+
+ghost use Rattle.std.specs.Prelude.{◌≡◌, ℕ, ◌+◌, ◌*◌, ◌<◌, ◌≤◌, ◌*ℤ◌, pos, int_div, length, slice_index_or, unsigned_abs};
+ghost use Rattle.std.specs.List.{All};
+ghost use Rattle.stencil_def.specs.Limits.{IsWeight, IsValue};
+ghost use Rattle.stencil_def.specs.Square.{side};
+ghost use Rattle.stencil_def.specs.Step.{clamped};
+ghost use Rattle.cell_lanes.specs.Lanes.{four};
+ghost use Rattle.cell_lanes.specs.Sizes.{IsSum, IsRowSum};
+ghost use Rattle.cell_lanes.specs.Window.{row_sum_at, sum_at};
+
+use crate::Divisor;
+use crate::lanes::{LANES, plus, times};
+use std::simd::prelude::*;
+use stencil_def::Weights;
+
+/// The sums over row `a` of the window, of the cells in columns `x` to `x + 3`.
+#[inline(always)]
+fn row_of_four(
+    window: &[i64],
+    width: usize,
+    weights: &Weights,
+    reach: u32,
+    x: usize,
+    a: u32,
+) -> i64x4
+    requires window { length window.now ≡ side weights.now * width }
+    requires values { All IsValue window.now }
+    requires reach { reach ≡ weights.now.reach }
+    requires near { reach ≤ 2 }
+    requires column { x + 4 + 2 * reach ≤ width }
+    requires row { a < side weights.now }
+    ensures sums { result ≡ four (λ i. row_sum_at weights.now window.now width (x + i) a) }
+    ensures limits { (i : ℕ) → IsRowSum (row_sum_at weights.now window.now width (x + i) a) }
+{
+    let start = a as usize * width + x;
+    let mut sums = i64x4::splat(0);
+    for b in 0..2 * reach + 1 {
+        let values = i64x4::from_slice(&window[start + b as usize..]);
+        sums = plus(sums, times(weights.at(a, b), values));
+    }
+    sums
+}
+
+/// The sums over the window, of the cells in columns `x` to `x + 3`.
+#[inline(always)]
+fn sums_of_four(window: &[i64], width: usize, weights: &Weights, reach: u32, x: usize) -> i64x4
+    requires window { length window.now ≡ side weights.now * width }
+    requires values { All IsValue window.now }
+    requires reach { reach ≡ weights.now.reach }
+    requires near { reach ≤ 2 }
+    requires column { x + 4 + 2 * reach ≤ width }
+    ensures sums { result ≡ four (λ i. sum_at weights.now window.now width (x + i)) }
+    ensures limits { (i : ℕ) → IsSum (sum_at weights.now window.now width (x + i)) }
+{
+    let mut sums = i64x4::splat(0);
+    for a in 0..2 * reach + 1 {
+        sums = plus(sums, row_of_four(window, width, weights, reach, x, a));
+    }
+    sums
+}
+
+/// The weight times the value.
+#[inline(always)]
+fn product(weight: i64, value: i64) -> i64
+    requires weight { IsWeight weight }
+    requires value { IsValue value }
+    ensures value { result ≡ weight *ℤ value }
+    ensures limits { unsigned_abs result ≤ 1000000000000000 }
+{
+    weight * value
+}
+
+/// The sum over row `a` of the window, of the cell in column `x`.
+#[inline(always)]
+fn row_of_one(window: &[i64], width: usize, weights: &Weights, reach: u32, x: usize, a: u32) -> i64
+    requires window { length window.now ≡ side weights.now * width }
+    requires values { All IsValue window.now }
+    requires reach { reach ≡ weights.now.reach }
+    requires near { reach ≤ 2 }
+    requires column { x + 2 * reach < width }
+    requires row { a < side weights.now }
+    ensures value { result ≡ row_sum_at weights.now window.now width x a }
+    ensures limits { IsRowSum result }
+{
+    let start = a as usize * width + x;
+    let mut sum = 0;
+    for b in 0..2 * reach + 1 {
+        sum += product(weights.at(a, b), window[start + b as usize]);
+    }
+    sum
+}
+
+/// The sum over the window, of the cell in column `x`.
+#[inline(always)]
+fn sum_of_one(window: &[i64], width: usize, weights: &Weights, reach: u32, x: usize) -> i64
+    requires window { length window.now ≡ side weights.now * width }
+    requires values { All IsValue window.now }
+    requires reach { reach ≡ weights.now.reach }
+    requires near { reach ≤ 2 }
+    requires column { x + 2 * reach < width }
+    ensures value { result ≡ sum_at weights.now window.now width x }
+    ensures limits { IsSum result }
+{
+    let mut sum = 0;
+    for a in 0..2 * reach + 1 {
+        sum += row_of_one(window, width, weights, reach, x, a);
+    }
+    sum
+}
+
+/// The sums of all cells of the row: four at a time, and then one by one.
+#[inline(always)]
+fn sums_at_reach(window: &[i64], width: usize, weights: &Weights, reach: u32, out: &mut [i64])
+    requires window { length window.now ≡ side weights.now * width }
+    requires values { All IsValue window.now }
+    requires reach { reach ≡ weights.now.reach }
+    requires near { reach ≤ 2 }
+    requires out { length out.old + 2 * reach ≡ width }
+    ensures sums { (x : ℕ) → x < length out.old → slice_index_or out.new x (pos 0) ≡ sum_at weights.now window.now width x }
+    ensures limits { All IsSum out.new }
+{
+    let mut x = 0;
+    while out.len() - x >= LANES {
+        sums_of_four(window, width, weights, reach, x).copy_to_slice(&mut out[x..]);
+        x += LANES;
+    }
+    for rest in x..out.len() {
+        out[rest] = sum_of_one(window, width, weights, reach, rest);
+    }
+}
+
+/// The plain weighted sums of a row, four cells at a time and the rest one by one.
+///
+/// The window is the rows round it, each with the reach of the weights more columns at both sides. Place x of `out`
+/// becomes the sum over a and b of `weights.at(a, b)` times the value in row a and column x + b of the window. Each
+/// value is from -10^12 to 10^12, and `width` is how many columns a row of the window has.
+pub fn window_sums(window: &[i64], width: u32, weights: &Weights, out: &mut [i64])
+    requires window { length window.now ≡ side weights.now * width }
+    requires values { All IsValue window.now }
+    requires out { length out.old + 2 * weights.now.reach ≡ width }
+    ensures sums { (x : ℕ) → x < length out.old → slice_index_or out.new x (pos 0) ≡ sum_at weights.now window.now width x }
+    ensures limits { All IsSum out.new }
+{
+    // A copy of its own, which no write to the sums can change, stays in registers.
+    let own = *weights;
+    if own.reach() == 1 {
+        sums_at_reach(window, width as usize, &own, 1, out);
+    } else {
+        sums_at_reach(window, width as usize, &own, 2, out);
+    }
+}
+
+/// The new values of a row: its weighted sums, divided with truncation toward zero and clamped to -10^12 to 10^12.
+///
+/// The window and `out` are those of `window_sums`.
+pub fn new_cells(window: &[i64], width: u32, weights: &Weights, divisor: &Divisor, out: &mut [i64])
+    requires window { length window.now ≡ side weights.now * width }
+    requires values { All IsValue window.now }
+    requires out { length out.old + 2 * weights.now.reach ≡ width }
+    ensures values { (x : ℕ) → x < length out.old →
+        slice_index_or out.new x (pos 0) ≡ clamped (int_div (sum_at weights.now window.now width x) divisor.now) }
+    ensures limits { All IsValue out.new }
+{
+    window_sums(window, width, weights, out);
+    divisor.quotients(out);
+}
