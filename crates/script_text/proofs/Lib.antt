@@ -1,0 +1,4 @@
+pub mod Numbers
+pub mod Pairs
+pub mod Arguments
+pub mod LineCounts
