@@ -2,3 +2,4 @@ pub mod Numbers
 pub mod Pairs
 pub mod Arguments
 pub mod LineCounts
+pub mod Faults

@@ -1,5 +1,5 @@
 -- What the words of a line call.
-use Rattle.std.specs.Prelude.{ℕ, bytes_eq, codes, if◌then◌else◌, List, [], ◌∷◌, Option, Some, None, option_map}
+use Rattle.std.specs.Prelude.{ℕ, bytes_eq, codes, if◌then◌else◌, List, [], ◌∷◌, Option, Some, None}
 use Rattle.script_text.specs.Words.{◌>>=◌, number_of, name_of, bytes_of, numbers_of}
 use Rattle.script_text.specs.declared.call.Init.{Init}
 use Rattle.script_text.specs.declared.call.Call.{Call}

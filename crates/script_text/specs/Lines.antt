@@ -1,5 +1,5 @@
 -- The lines of a text, and the words of a line.
-use Rattle.std.specs.Prelude.{ℕ, ◌+◌, Bool, true, ◌||◌, ◌==◌, not, if◌then◌else◌, List, [], ◌∷◌, length, map, slice_index}
+use Rattle.std.specs.Prelude.{◌≡◌, ℕ, ◌+◌, ◌-◌, ◌≤◌, Bool, true, false, ◌||◌, ◌==◌, not, if◌then◌else◌, List, [], ◌∷◌, length, map, slice_index, slice_index_or}
 use Rattle.std.specs.List.{slice_split, filter}
 use Rattle.std.specs.Str.Lines.{strip_carriage_return}
 use Rattle.std.specs.Borrow.{Bor}
@@ -41,3 +41,13 @@ sentences_from n (line ∷ rest) =
 -- the lines of a text that aren't skipped, where all lines are counted from 1
 abbrev pub sentences_of : List ℕ → List Sentence
 sentences_of text = sentences_from 1 (parts_of text)
+
+-- the words of line n of a text, where lines are counted from 1
+abbrev pub words_at : List ℕ → ℕ → List (List ℕ)
+words_at text n = words_of (strip_carriage_return (slice_index_or (parts_of text) (n - 1) []))
+
+-- the text has a line n that isn't skipped
+pub record HasLine (text : List ℕ) (n : ℕ) : Type 0 where
+  pub least : 1 ≤ n
+  pub most : n ≤ length (parts_of text)
+  pub read : is_skipped (words_at text n) ≡ false

@@ -1,11 +1,11 @@
 -- What a text says as a whole: a script, or the first fault by lines.
-use Rattle.std.specs.Prelude.{ℕ, Bool, true, false, ◌&&◌, not, bytes_eq, codes, if◌then◌else◌, List, [], ◌∷◌, Option, Some, None, Result, Ok, Err}
+use Rattle.std.specs.Prelude.{◌≡◌, ℕ, ◌<◌, Bool, true, false, ◌&&◌, bytes_eq, codes, if◌then◌else◌, List, [], ◌∷◌, drop, Option, Some, None, Result, Ok, Err}
 use Rattle.script_text.specs.Words.{◌>>=◌, when, is_within, number_of}
-use Rattle.script_text.specs.Lines.{Sentence, sentences_of}
+use Rattle.script_text.specs.Lines.{Sentence, sentences_of, words_at, HasLine}
 use Rattle.script_text.specs.Calls.{call_of}
 use Rattle.script_text.specs.declared.call.Call.{Call}
 use Rattle.script_text.specs.declared.fault.ScriptFault.{ScriptFault}
-use Rattle.script_text.specs.declared.fault.ScriptFault.TheVariants.{NoWorld, BadWorld, AfterEnd, BadLine, NoEnd}
+use Rattle.script_text.specs.declared.fault.ScriptFault.TheVariants.{NoWorld, BadWorld, AfterEnd, BadLine, NoEnd, NoMemory}
 
 -- the numbers of a world: how many ranks it has, the least bytes of a piece, and how many rounds may be in flight
 pub record World : Type 0 where
@@ -28,6 +28,11 @@ world_of (ranks ∷ grain ∷ depth ∷ []) = do
   d ← number_of depth
   within_limits record { ranks = r; grain = g; depth = d }
 world_of _ = None
+
+-- the first word is `world`
+abbrev pub is_headed : List (List ℕ) → Bool
+is_headed [] = false
+is_headed (word ∷ words) = bytes_eq word (codes "world")
 
 -- a script: its world, and its calls up to `end`
 pub record Contents : Type 0 where
@@ -75,3 +80,16 @@ contents_of (s ∷ rest) = first_of s.number s.words (calls_of rest)
 -- what a text says
 abbrev pub script_of : List ℕ → Result Contents ScriptFault
 script_of text = contents_of (sentences_of text)
+
+-- what a fault says of the line that it names: it is one of the text that isn't skipped, and
+abbrev pub IsFaultOf : List ℕ → ScriptFault → Type 0
+-- its first word isn't `world`
+IsFaultOf text (NoWorld n) = HasLine text n × (is_headed (words_at text n) ≡ false)
+-- its first word is `world`, and the words behind it are no world
+IsFaultOf text (BadWorld n) = HasLine text n × (is_headed (words_at text n) ≡ true) × (world_of (drop 1 (words_at text n)) ≡ None)
+-- a line before it is `end`
+IsFaultOf text (AfterEnd n) = HasLine text n × (m : ℕ) × (m < n) × (is_end (words_at text m) ≡ true)
+-- it calls nothing
+IsFaultOf text (BadLine n) = HasLine text n × (call_of (words_at text n) ≡ None)
+IsFaultOf text NoEnd = (n : ℕ) → HasLine text n → is_end (words_at text n) ≡ false
+IsFaultOf text NoMemory = Unit {0}

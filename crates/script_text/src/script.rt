@@ -2,7 +2,7 @@
 
 ghost use Rattle.std.specs.Prelude.{◌≡◌, ◌≢◌, ◌≤◌, true, [], ◌∷◌, length, IfOk, IfErr, OnOk};
 ghost use Rattle.script_text.specs.Lines.{texts, sentences_from};
-ghost use Rattle.script_text.specs.Script.{is_world, within_limits, world_of, is_end, contents_of, script_of};
+ghost use Rattle.script_text.specs.Script.{is_world, within_limits, world_of, is_end, contents_of, script_of, IsFaultOf};
 ghost use Rattle.script_text.specs.Reading.{body_of, whole_of, Begins, Goes, IsFault, GoesLine, IsLineFault};
 
 use crate::call::Call;
@@ -256,13 +256,25 @@ fn finish(body: Option<Body>) -> Result<Script, ScriptFault>
     ensures { result ≡ whole_of body [] }
 {
     match body {
-        Some(Body {
-            limits,
-            calls,
-            has_ended: true,
-        }) => Ok(Script { limits, calls }),
+        Some(
+            Body {
+                limits,
+                calls,
+                has_ended: true,
+            },
+        ) => Ok(Script { limits, calls }),
         _ => Err(ScriptFault::NoEnd),
     }
+}
+
+/// The script that a text is, or else its first fault.
+fn read_text(alloc: Global, bytes: &[u8]) -> Result<Script, ScriptFault>
+    requires { length bytes.now ≤ 1048576 }
+    ensures script { IfOk result (λ script. script_of bytes.now ≡ Ok script) }
+    ensures fault { IfErr result (λ fault. fault ≢ ScriptFault.NoMemory → script_of bytes.now ≡ Err fault) }
+{
+    let lines = split(alloc, bytes, b'\n')?;
+    finish(read_lines(alloc, &lines)?)
 }
 
 /// The script that a text is, or else its first fault in the order of lines. Lines end by LF, which the last one may
@@ -273,7 +285,7 @@ pub fn parse_script(alloc: Global, bytes: &[u8]) -> Result<Script, ScriptFault>
     requires { length bytes.now ≤ 1048576 }
     ensures script { IfOk result (λ script. script_of bytes.now ≡ Ok script) }
     ensures fault { IfErr result (λ fault. fault ≢ ScriptFault.NoMemory → script_of bytes.now ≡ Err fault) }
+    ensures line { IfErr result (IsFaultOf bytes.now) }
 {
-    let lines = split(alloc, bytes, b'\n')?;
-    finish(read_lines(alloc, &lines)?)
+    read_text(alloc, bytes)
 }

@@ -145,9 +145,18 @@ fn each_fault_names_its_line(rt: HostRuntime) -> Result<(), Fail> {
         ("world 1 1 1 1\nx\n", ScriptFault::BadWorld { line: 1 }),
         ("world 1 1 x\nend\n", ScriptFault::BadWorld { line: 1 }),
         ("world 1 1 1\nend\nend\n", ScriptFault::AfterEnd { line: 3 }),
-        ("world 1 1 1\nend\n\n#\nx y\n", ScriptFault::AfterEnd { line: 5 }),
-        ("world 1 1 1\n\nx\ny\nend\n", ScriptFault::BadLine { line: 3 }),
-        ("world 1 1 1\nworld 1 1 1\nend\n", ScriptFault::BadLine { line: 2 }),
+        (
+            "world 1 1 1\nend\n\n#\nx y\n",
+            ScriptFault::AfterEnd { line: 5 },
+        ),
+        (
+            "world 1 1 1\n\nx\ny\nend\n",
+            ScriptFault::BadLine { line: 3 },
+        ),
+        (
+            "world 1 1 1\nworld 1 1 1\nend\n",
+            ScriptFault::BadLine { line: 2 },
+        ),
         ("world 1 1 1\nend end\n", ScriptFault::BadLine { line: 2 }),
         ("world 1 1 1\r\r\nend\n", ScriptFault::BadWorld { line: 1 }),
     ];

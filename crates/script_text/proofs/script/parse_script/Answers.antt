@@ -1,5 +1,6 @@
-use Rattle.script_text.proofs.LineCounts.{lines_few}
+use Rattle.std.proofs.lemmas.Result.{IfErr-weaker}
+use Rattle.script_text.proofs.Faults.{answer_says}
 use Rattle.script_text.proofs.script.parse_script.Goals as goal
 
-pub read_lines-requires : goal.read_lines-requires
-read_lines-requires c = rw c.deref.ensures.value (lines_few c.args.bytes.now _ c.in_ok-lines.ensures c.requires)
+pub returns-clause-line : goal.returns-clause-line
+returns-clause-line c = IfErr-weaker c.read_text.result _ _ (answer_says c.args.bytes.now) c.read_text.ensures.fault
