@@ -40,7 +40,7 @@ has_behind n line rest k has = let above : n + 1 ≤ k = has.least in let below 
 abbrev pub Says : ℕ → List (List ℕ) → ScriptFault → Type 0
 Says n lines (NoWorld k) = Has n lines k × (is_headed (words_in n lines k) ≡ false)
 Says n lines (BadWorld k) = Has n lines k × (is_headed (words_in n lines k) ≡ true) × (world_of (drop 1 (words_in n lines k)) ≡ None)
-Says n lines (AfterEnd k) = Has n lines k × (m : ℕ) × (n ≤ m) × (m < k) × (is_end (words_in n lines m) ≡ true)
+Says n lines (AfterEnd k) = Has n lines k × (m : ℕ) × Has n lines m × (m < k) × (is_end (words_in n lines m) ≡ true)
 Says n lines (BadLine k) = Has n lines k × (call_of (words_in n lines k) ≡ None)
 Says n lines NoEnd = (k : ℕ) → Has n lines k → is_end (words_in n lines k) ≡ false
 Says n lines NoMemory = Unit {0}
@@ -66,8 +66,8 @@ says_behind n line rest (BadWorld k) here s =
     let above : n + 1 ≤ k = s.0.least in
     (has_behind n line rest k s.0, rw (words_behind n line rest k above) s.1, rw (words_behind n line rest k above) s.2)
 says_behind n line rest (AfterEnd k) here s =
-    let above : n + 1 ≤ s.1 = s.2 in
-    (has_behind n line rest k s.0, s.1, omega arith, s.3, rw (words_behind n line rest s.1 above) s.4)
+    let above : n + 1 ≤ s.1 = s.2.least in
+    (has_behind n line rest k s.0, s.1, has_behind n line rest s.1 s.2, s.3, rw (words_behind n line rest s.1 above) s.4)
 says_behind n line rest (BadLine k) here s =
     let above : n + 1 ≤ k = s.0.least in (has_behind n line rest k s.0, rw (words_behind n line rest k above) s.1)
 says_behind n line rest NoEnd here s = no_end_in n line rest here s
@@ -98,11 +98,12 @@ first_is n (line ∷ rest) f is =
       | false ↦ λ read tells. record { at = n; is = cc; has = has_here n line rest read }
     ] refl is
 
-end_says : (n : ℕ) (line : List ℕ) (rest : List (List ℕ)) (f : ScriptFault) → is_end (said line) ≡ true → First (n + 1) rest f → Says n (line ∷ rest) f
-end_says n line rest f ends first =
+end_says : (n : ℕ) (line : List ℕ) (rest : List (List ℕ)) (f : ScriptFault) → is_skipped (said line) ≡ false → is_end (said line) ≡ true
+    → First (n + 1) rest f → Says n (line ∷ rest) f
+end_says n line rest f read ends first =
     let least : n + 1 ≤ first.at = first.has.least in
     subst (Says n (line ∷ rest)) first.is
-    (has_behind n line rest first.at first.has, n, omega arith, omega arith, rw (words_here n line rest) ends)
+    (has_behind n line rest first.at first.has, n, has_here n line rest read, omega arith, rw (words_here n line rest) ends)
 
 with_some : (n : ℕ) (call : Call) (others : Result (List Call) ScriptFault) (f : ScriptFault) → with_call n (Some call) others ≡ Err f → others ≡ Err f
 with_some n call (Ok calls) f is = absurd (cc)
@@ -131,7 +132,7 @@ calls_say n (line ∷ rest) f is =
       | false ↦ λ read tells. elim (is_end (said line)) as (λ v. is_end (said line) ≡ v
           → (if v then after_end (sentences_from (n + 1) rest) else with_call n (call_of (said line)) (calls_of (sentences_from (n + 1) rest))) ≡ Err f
           → Says n (line ∷ rest) f) [
-            | true ↦ λ ends after. end_says n line rest f ends (first_is (n + 1) rest f after)
+            | true ↦ λ ends after. end_says n line rest f read ends (first_is (n + 1) rest f after)
             | false ↦ λ no_end calls. call_says n line rest f read no_end calls (calls_say (n + 1) rest f)
           ] refl tells
     ] refl is
@@ -206,7 +207,7 @@ line_has text k has = let most : k ≤ length (parts_of text) = has.most in
 tells : (text : List ℕ) (f : ScriptFault) → Says 1 (parts_of text) f → IsFaultOf text f
 tells text (NoWorld k) s = (has_line text k s.0, s.1)
 tells text (BadWorld k) s = (has_line text k s.0, s.1, s.2)
-tells text (AfterEnd k) s = (has_line text k s.0, s.1, s.3, s.4)
+tells text (AfterEnd k) s = (has_line text k s.0, s.1, has_line text s.1 s.2, s.3, s.4)
 tells text (BadLine k) s = (has_line text k s.0, s.1)
 tells text NoEnd s = λ k has. s k (line_has text k has)
 tells text NoMemory s = tt

@@ -88,8 +88,9 @@ IsFaultOf text (NoWorld n) = HasLine text n × (is_headed (words_at text n) ≡ 
 -- its first word is `world`, and the words behind it are no world
 IsFaultOf text (BadWorld n) = HasLine text n × (is_headed (words_at text n) ≡ true) × (world_of (drop 1 (words_at text n)) ≡ None)
 -- a line before it is `end`
-IsFaultOf text (AfterEnd n) = HasLine text n × (m : ℕ) × (m < n) × (is_end (words_at text m) ≡ true)
+IsFaultOf text (AfterEnd n) = HasLine text n × (m : ℕ) × HasLine text m × (m < n) × (is_end (words_at text m) ≡ true)
 -- it calls nothing
 IsFaultOf text (BadLine n) = HasLine text n × (call_of (words_at text n) ≡ None)
+-- no line is `end`
 IsFaultOf text NoEnd = (n : ℕ) → HasLine text n → is_end (words_at text n) ≡ false
 IsFaultOf text NoMemory = Unit {0}
