@@ -1,20 +1,19 @@
 -- A return: what is kept stays sound, and stands for the record with the return.
-use Rattle.std.proofs.Common.{◌≡◌, ◌≢◌, ℕ, ◌+◌, ◌-◌, ◌*◌, ◌/◌, ◌%◌, ◌<◌, ◌≤◌, ◌==◌, Bool, true, false, cond, ◌&&◌, ◌||◌, not, List, [], length, get_or, set, refl, ap, sym, ◌∙◌, arith, inl, inr}
+use Rattle.std.proofs.Common.{◌≡◌, ◌≢◌, ℕ, ◌+◌, ◌*◌, ◌/◌, ◌%◌, ◌<◌, ◌≤◌, ◌==◌, Bool, true, false, cond, ◌&&◌, ◌||◌, not, List, [], length, get_or, set, refl, ap, sym, ◌∙◌, arith, inl, inr}
 use Rattle.std.specs.FinSet as parts
-use Rattle.std.specs.Ordering.{nat_cmp}
 use Rattle.std.specs.Cmp.{nat_cmp_total}
-use Rattle.std.proofs.lemmas.Bool.{cases_eq, cases_Bool, eq-eqb, ne_eqb, and_parts, and_from, and_left, and_right, false≢true}
+use Rattle.std.proofs.lemmas.Bool.{cases_eq, eq-eqb, ne_eqb, and_from, and_left, and_right, false≢true}
 use Rattle.std.proofs.lemmas.List.{length-set, get_or-set_same, get_or-set_other}
 use Rattle.std.proofs.Math.Nat.{div-lt_iff_lt-mul}
-use Rattle.part_geometry.specs.Shape.{Shape, IsShape, send_total}
+use Rattle.part_geometry.specs.Shape.{send_total}
 use Rattle.plain_pair.specs.Taken.{Taken}
-use Rattle.plain_pair.specs.Record.{Record, send_round, pieces_out}
+use Rattle.plain_pair.specs.Record.{Record, pieces_out}
 use Rattle.plain_pair.specs.Moves.{gave_back}
 use Rattle.plain_pair.specs.Kept.{Kept, has, kept_byte, was_taken, kept_out, buffer_place}
 use Rattle.plain_pair.specs.Sound.{IsSound, HasRounds, is_away}
 use Rattle.plain_pair.specs.Looking.{IsOut}
 use Rattle.plain_pair.specs.StandsFor.{StandsFor}
-use Rattle.plain_pair.proofs.Touching.{has-set, has-set_other, has-set_same}
+use Rattle.plain_pair.proofs.Touching.{has-set, has-set_other}
 use Rattle.plain_pair.proofs.Places.{one_turn, place_inside}
 use Rattle.plain_pair.proofs.Marks.{ties}
 use Rattle.plain_pair.proofs.Takes.{one_place}

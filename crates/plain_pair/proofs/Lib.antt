@@ -19,3 +19,5 @@ pub mod Looks
 pub mod Takes
 pub mod Backs
 pub mod TestAnswers
+pub mod Growth
+pub mod ManyMarks

@@ -1,20 +1,19 @@
 -- The tests of both sides: their answers by what is kept, and what a side that becomes inactive leaves.
-use Rattle.std.proofs.Common.{◌≡◌, ◌≢◌, ℕ, ◌+◌, ◌-◌, ◌*◌, ◌/◌, ◌%◌, ◌<◌, ◌≤◌, ◌==◌, nat_lt, Bool, true, false, cond, ◌&&◌, ◌||◌, not, Some, None, Option, List, length, find, refl, ap, sym, ◌∙◌, arith, inl, inr, if◌then◌else◌}
+use Rattle.std.proofs.Common.{◌≡◌, ℕ, ◌+◌, ◌*◌, ◌/◌, ◌%◌, ◌<◌, ◌≤◌, ◌==◌, nat_lt, Bool, true, false, ◌&&◌, not, Some, None, List, length, refl, ap, sym, ◌∙◌, arith, inl, inr, if◌then◌else◌}
 use Rattle.std.specs.FinSet as parts
-use Rattle.std.specs.List.{range_with_len}
 use Rattle.std.specs.Option.{option_map_or}
 use Rattle.std.proofs.lemmas.Bool.{cases_Bool, lt-ltb, le-ltb, ne_eqb, and_left, and_right, not-false, false≢true}
-use Rattle.std.proofs.lemmas.Nat.{mul-le, div-mul-add}
+use Rattle.std.proofs.lemmas.Nat.{div-mul-add}
 use Rattle.std.proofs.Math.Nat.{div-lt_iff_lt-mul}
 use Rattle.part_geometry.specs.declared.answers.RecvTest.{RecvTest}
 use Rattle.part_geometry.specs.declared.answers.RecvTest.TheVariants as recv
-use Rattle.part_geometry.specs.Shape.{Shape, IsShape, send_total}
+use Rattle.part_geometry.specs.Shape.{send_total}
 use Rattle.plain_pair.specs.declared.answers.PlainSendTest.{PlainSendTest}
 use Rattle.plain_pair.specs.declared.answers.PlainSendTest.TheVariants as send
-use Rattle.plain_pair.specs.Record.{Record, send_round, round_of, is_marked, pieces_out}
-use Rattle.plain_pair.specs.Moves.{least_without, test_send_answer, sent_done, after_test_send, test_recv_answer, received_done, after_test_recv}
+use Rattle.plain_pair.specs.Record.{Record, round_of, is_marked, pieces_out}
+use Rattle.plain_pair.specs.Moves.{least_without, test_send_answer, after_test_send, test_recv_answer, after_test_recv}
 use Rattle.plain_pair.specs.Kept.{Kept, has, kept_mark, was_taken, kept_out}
-use Rattle.plain_pair.specs.Sound.{IsSound, HasRounds, is_away}
+use Rattle.plain_pair.specs.Sound.{IsSound}
 use Rattle.plain_pair.specs.StandsFor.{StandsFor, Follows}
 use Rattle.plain_pair.proofs.Agree.{marks_now}
 use Rattle.plain_pair.proofs.Overs.{find-same, find-nothing}

@@ -12,3 +12,5 @@ pub mod Stored
 pub mod Lessens
 pub mod Marking
 pub mod Looking
+pub mod Many
+pub mod Growing

@@ -23,6 +23,16 @@ pub enum PlainRefusal {
     BadRange,
 }
 
+/// Why the marks of a range or a list stopped. The partitions before stay marked.
+#[derive(Clone, Copy, Debug, PartialEq, Eq, Error)]
+#[error("{cause} after {at} marks")]
+pub struct PlainStop {
+    /// How many partitions this call had marked.
+    pub at: u32,
+    /// Why the next one was refused, or the whole range or list, with `at` 0.
+    pub cause: PlainRefusal,
+}
+
 /// Whether a receive partition has arrived (`MPI_Parrived`, MPI 4.0, 4.2.2).
 #[derive(Clone, Copy, Debug, PartialEq, Eq)]
 pub enum PlainLook {

@@ -5,12 +5,13 @@ mod answers;
 mod arrival;
 mod buffer;
 mod flags;
+mod many;
 mod marking;
 mod pair;
 mod tables;
 #[cfg(test)]
 mod tests;
 
-pub use answers::{PlainLook, PlainRefusal, PlainSendTest, PlainTake};
+pub use answers::{PlainLook, PlainRefusal, PlainSendTest, PlainStop, PlainTake};
 pub use arrival::PlainArrival;
 pub use pair::{LAST_ROUND, PlainClosed, PlainPair};

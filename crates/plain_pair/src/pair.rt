@@ -73,11 +73,13 @@ fn next_round(active: bool, round: u32) -> Result<u32, StartFault>
 }
 
 impl PlainPair {
+    ghost use Rattle.part_geometry.specs.Shape.{IsShape};
     ghost use Rattle.plain_pair.specs.Record.{first_record};
     ghost use Rattle.plain_pair.specs.Moves.{start_send_answer, after_start_send, start_recv_answer, after_start_recv, pready_answer, after_pready, parrived_answer, take_answer, after_take, gave_back, test_send_answer, after_test_send, test_recv_answer, after_test_recv};
     ghost use Rattle.plain_pair.specs.Closing.{closed_answer};
     ghost use Rattle.plain_pair.specs.Kept.{buffer_place};
     ghost use Rattle.plain_pair.specs.Looking.{CanTake, IsOut, Takes, kept_missing, take_refusal};
+    ghost use Rattle.plain_pair.specs.Growing.{Grows};
     ghost use Rattle.plain_pair.specs.Marking.{CanMark, Marks, refusal};
     ghost use Rattle.plain_pair.specs.StandsFor.{StandsFor, Follows};
 
@@ -112,6 +114,14 @@ impl PlainPair {
             missing,
             buffers,
         })
+    }
+
+    /// What the pair was made of.
+    pub(crate) fn geometry(&self) -> Geometry
+        ensures value { result ≡ self.now.shape }
+        ensures limits { IsShape result }
+    {
+        self.tables.geometry()
     }
 
     /// Starts the next round of the sender (`MPI_Start`, MPI 4.0, 3.9), and answers its number. Refused while the
@@ -163,6 +173,22 @@ impl PlainPair {
             (λ r. pready_answer self.old.shape r round p bytes.now)
             (λ r. after_pready self.old.shape r round p bytes.now) }
     {
+        self.mark_one(round, p, bytes)
+    }
+
+    /// The same, and what it counts.
+    pub(crate) fn mark_one(
+        &mut self,
+        round: u32,
+        p: u32,
+        bytes: &[u8],
+    ) -> Result<Marked, PlainRefusal>
+        ensures shape { self.new.shape ≡ self.old.shape }
+        ensures answer { Follows self.old self.new result
+            (λ r. pready_answer self.old.shape r round p bytes.now)
+            (λ r. after_pready self.old.shape r round p bytes.now) }
+        ensures grows { IfOk result (λ m. Grows self.old self.new m.sent) }
+    {
         let _tables = &self.tables;
         self.refuse_mark(round, p, bytes.len())?;
         let sent = self.mark(p as usize, bytes);
@@ -199,6 +225,7 @@ impl PlainPair {
         requires length { length bytes.now ≡ self.old.shape.send_bytes }
         ensures shape { self.new.shape ≡ self.old.shape }
         ensures marks { Marks self.old self.new p bytes.now result }
+        ensures grows { Grows self.old self.new result }
     {
         let geometry = self.tables.geometry();
         let base = (self.sent % geometry.depth()) as usize * geometry.recv_parts() as usize;

@@ -1,6 +1,6 @@
 //! Short runs of a pair, with the pieces counted by hand.
 
-use crate::{PlainLook, PlainPair, PlainRefusal, PlainSendTest, PlainTake};
+use crate::{PlainLook, PlainPair, PlainRefusal, PlainSendTest, PlainStop, PlainTake};
 use part_geometry::{Geometry, RecvTest, StartFault};
 use std::process::Abort;
 
@@ -121,4 +121,66 @@ fn a_released_round_makes_room_for_the_next(rt: HostRuntime) {
     pair.pready(2, 0, b"efgh").expect(&rt, "unmarked");
     assert_eq!(rt; pair.start_recv(), Ok(2));
     assert_eq!(rt; pair.parrived(0), PlainLook::NotYet { piece: 1 });
+}
+
+/// A pair of 4 partitions of one byte on both sides, with a round started by the sender.
+fn four<R: Abort + AllocGlobal>(rt: &R) -> PlainPair {
+    let geometry = Geometry::new(4, 1, 4, 1, 1, 1).expect(rt, "within the limits");
+    let mut pair = PlainPair::create(rt.alloc(), geometry).expect(rt, "enough memory");
+    assert_eq!(rt; pair.start_send(), Ok(1));
+    pair
+}
+
+#[test]
+fn ranges_and_lists_mark_in_order(rt: HostRuntime) {
+    let mut pair = four(&rt);
+    let marks = pair.pready_range(1, 1, 2, b"ab").expect(&rt, "unmarked");
+    assert_eq!(rt; (marks.round, marks.count, marks.sent), (1, 2, 2));
+    assert_eq!(rt;
+        pair.pready_list(1, &[0, 1], b"cd"),
+        Err(PlainStop {
+            at: 1,
+            cause: PlainRefusal::AlreadyMarked
+        })
+    );
+    let marks = pair.pready_list(1, &[3], b"e").expect(&rt, "unmarked");
+    assert_eq!(rt; (marks.count, marks.sent), (1, 1));
+    assert_eq!(rt; pair.test_send(), PlainSendTest::Unreleased { released: 0 });
+    assert_eq!(rt; pair.start_recv(), Ok(1));
+    let bytes = [(0, b'c'), (1, b'a'), (2, b'b'), (3, b'e')];
+    for (q, byte) in bytes {
+        let taken = pair.take(q).expect(&rt, "arrived");
+        assert_eq!(rt; taken.as_slice(), [byte].as_slice());
+    }
+}
+
+#[test]
+fn a_bad_range_or_list_marks_nothing(rt: HostRuntime) {
+    let mut pair = four(&rt);
+    let whole = |cause| Err(PlainStop { at: 0, cause });
+    assert_eq!(rt;
+        pair.pready_range(1, 3, 4, b"ff"),
+        whole(PlainRefusal::BadRange)
+    );
+    assert_eq!(rt;
+        pair.pready_range(1, 2, 1, b""),
+        whole(PlainRefusal::BadRange)
+    );
+    assert_eq!(rt;
+        pair.pready_range(1, 0, 3, b"e"),
+        whole(PlainRefusal::BadLength)
+    );
+    assert_eq!(rt;
+        pair.pready_list(1, &[4], b"e"),
+        whole(PlainRefusal::BadPartition)
+    );
+    assert_eq!(rt;
+        pair.pready_list(1, &[3], b""),
+        whole(PlainRefusal::BadLength)
+    );
+    assert_eq!(rt; pair.test_send(), PlainSendTest::Unmarked { partition: 0 });
+    let none = pair
+        .pready_list(7, &[], b"")
+        .expect(&rt, "nothing to refuse");
+    assert_eq!(rt; (none.round, none.count, none.sent), (7, 0, 0));
 }

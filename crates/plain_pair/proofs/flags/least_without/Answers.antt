@@ -1,4 +1,4 @@
-use Rattle.std.proofs.Common.{◌≡◌, ◌∙◌, ap, not, false, length, slice_index_or}
+use Rattle.std.proofs.Common.{◌∙◌, ap, not, false, length, slice_index_or}
 use Rattle.plain_pair.proofs.Overs.{find-next}
 use Rattle.plain_pair.proofs.flags.least_without.Goals as goal
 

@@ -1,4 +1,4 @@
-use Rattle.std.proofs.Common.{◌≡◌, sym, subst}
+use Rattle.std.proofs.Common.{sym, subst}
 use Rattle.plain_pair.specs.Pair.{kept_of}
 use Rattle.plain_pair.specs.Looking.{IsOut}
 use Rattle.plain_pair.proofs.Backs.{sound_back, stands_back}

@@ -4,6 +4,7 @@ use Rattle.part_geometry.proofs.PieceFacts.{pieces-le}
 use Rattle.plain_pair.specs.Pair.{kept_of}
 use Rattle.plain_pair.specs.Marking.{CanMark}
 use Rattle.plain_pair.proofs.Marks.{IsMarked, room_now, some_missing, sound_mark, marks}
+use Rattle.plain_pair.proofs.Growth.{grows}
 use Rattle.plain_pair.proofs.pair.PlainPair.mark.Goals as goal
 
 pub store-requires-clause-room : goal.store-requires-clause-room
@@ -38,3 +39,8 @@ pub returns-clause-marks : goal.returns-clause-marks
 returns-clause-marks c =
     rw (← c.self.view_is, c.add.ensures)
     (marks (kept_of c.self.inside) _ _ _ _ _ _ _ _ c.self.invariant (subst (λ k. CanMark k c.args.p) (sym c.self.view_is) c.requires.free) (left c) c.count_down.ensures.whole)
+
+pub returns-clause-grows : goal.returns-clause-grows
+returns-clause-grows c =
+    rw (← c.self.view_is, c.add.ensures)
+    (grows (kept_of c.self.inside) _ c.args.p _ _ _ _ c.self.invariant (subst (λ k. CanMark k c.args.p) (sym c.self.view_is) c.requires.free) c.send_pieces-first.ensures c.count_down.ensures.whole)

@@ -1,4 +1,4 @@
-use Rattle.std.proofs.Common.{◌≡◌, sym}
+use Rattle.std.proofs.Common.{sym}
 use Rattle.plain_pair.specs.Pair.{kept_of}
 use Rattle.plain_pair.proofs.TestAnswers.{at_untaken, at_out, at_received, follows_untaken, follows_out, follows_received, sound_received}
 use Rattle.plain_pair.proofs.pair.PlainPair.test_recv.Goals as goal

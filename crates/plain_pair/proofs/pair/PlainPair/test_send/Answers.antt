@@ -1,4 +1,4 @@
-use Rattle.std.proofs.Common.{◌≡◌, sym}
+use Rattle.std.proofs.Common.{sym}
 use Rattle.plain_pair.specs.Pair.{kept_of}
 use Rattle.plain_pair.proofs.TestAnswers.{at_unmarked, at_unreleased, at_sent, follows_unmarked, follows_unreleased, follows_sent, sound_sent}
 use Rattle.plain_pair.proofs.pair.PlainPair.test_send.Goals as goal

@@ -2,7 +2,7 @@ use Rattle.std.proofs.Common.{subst, ◌∙◌, length}
 use Rattle.std.proofs.lemmas.Result.{err_from_is_err_and}
 use Rattle.plain_pair.specs.Sound.{IsSound}
 use Rattle.plain_pair.proofs.Refusals.{same_refusal, follows_refused, follows_marked}
-use Rattle.plain_pair.proofs.pair.PlainPair.pready.Goals as goal
+use Rattle.plain_pair.proofs.pair.PlainPair.mark_one.Goals as goal
 
 pub returns-in_err-refuse_mark-clause-answer : goal.returns-in_err-refuse_mark-clause-answer
 returns-in_err-refuse_mark-clause-answer c =
