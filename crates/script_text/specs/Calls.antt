@@ -3,7 +3,9 @@ use Rattle.std.specs.Prelude.{ℕ, bytes_eq, codes, if◌then◌else◌, List, [
 use Rattle.script_text.specs.Words.{◌>>=◌, number_of, name_of, bytes_of, numbers_of}
 use Rattle.script_text.specs.declared.call.Init.{Init}
 use Rattle.script_text.specs.declared.call.Call.{Call}
-use Rattle.script_text.specs.declared.call.Call.TheVariants.{Send, Recv, Start, Ready, ReadyRange, ReadyList, Arrived, Take, Back, Test, Free}
+use Rattle.script_text.specs.declared.call.Call.TheVariants.{Send, Recv, Request}
+use Rattle.script_text.specs.declared.call.Action.{Action}
+use Rattle.script_text.specs.declared.call.Action.TheVariants.{Start, Ready, ReadyRange, ReadyList, Arrived, Take, Back, Test, Free}
 
 -- the words behind `send` and `recv`
 abbrev pub init_of : List (List ℕ) → Option Init
@@ -36,17 +38,17 @@ named_of _ = None
 abbrev pub start_of : List (List ℕ) → Option Call
 start_of words = do
   n ← named_of words
-  Some (Start n)
+  Some (Request n Start)
 
 abbrev pub test_of : List (List ℕ) → Option Call
 test_of words = do
   n ← named_of words
-  Some (Test n)
+  Some (Request n Test)
 
 abbrev pub free_of : List (List ℕ) → Option Call
 free_of words = do
   n ← named_of words
-  Some (Free n)
+  Some (Request n Free)
 
 -- the words behind `arrived`, `take` and `back`
 abbrev pub placed_of : List (List ℕ) → Option (List ℕ × ℕ)
@@ -59,17 +61,17 @@ placed_of _ = None
 abbrev pub arrived_of : List (List ℕ) → Option Call
 arrived_of words = do
   p ← placed_of words
-  Some (Arrived p.0 p.1)
+  Some (Request p.0 (Arrived p.1))
 
 abbrev pub take_of : List (List ℕ) → Option Call
 take_of words = do
   p ← placed_of words
-  Some (Take p.0 p.1)
+  Some (Request p.0 (Take p.1))
 
 abbrev pub back_of : List (List ℕ) → Option Call
 back_of words = do
   p ← placed_of words
-  Some (Back p.0 p.1)
+  Some (Request p.0 (Back p.1))
 
 -- the words behind `ready`
 abbrev pub mark_of : List ℕ → List ℕ → List ℕ → List ℕ → Option Call
@@ -78,7 +80,7 @@ mark_of name round partition bytes = do
   r ← number_of round
   p ← number_of partition
   b ← bytes_of bytes
-  Some (Ready n r p b)
+  Some (Request n (Ready r p b))
 
 abbrev pub ready_of : List (List ℕ) → Option Call
 ready_of (name ∷ round ∷ partition ∷ bytes ∷ []) = mark_of name round partition bytes
@@ -92,7 +94,7 @@ range_mark_of name round low high bytes = do
   l ← number_of low
   h ← number_of high
   b ← bytes_of bytes
-  Some (ReadyRange n r l h b)
+  Some (Request n (ReadyRange r l h b))
 
 abbrev pub range_of : List (List ℕ) → Option Call
 range_of (name ∷ round ∷ low ∷ high ∷ bytes ∷ []) = range_mark_of name round low high bytes
@@ -105,7 +107,7 @@ list_mark_of name round parts bytes = do
   r ← number_of round
   p ← numbers_of parts
   b ← bytes_of bytes
-  Some (ReadyList n r p b)
+  Some (Request n (ReadyList r p b))
 
 abbrev pub list_of : List (List ℕ) → Option Call
 list_of (name ∷ round ∷ parts ∷ bytes ∷ []) = list_mark_of name round parts bytes

@@ -135,61 +135,55 @@ pub struct Init {
     pub bytes: u32,
 }
 
-/// What a line of a script calls, between `world` and `end`. A number is any of 32 bits: what it may be is the
-/// called function's to say.
+/// What is done with a request. A number is any of 32 bits: what it may be is the called function's to say.
 #[derive(Debug, Drop)]
-pub enum Call {
-    /// `send`: the sender's side of a message (MPI 4.0, 4.2.1).
-    Send(Init),
-    /// `recv`: the receiver's side.
-    Recv(Init),
-    /// `start`: a request begins its next round.
-    Start {
-        name: Name,
-    },
-    /// `ready`: the sender writes the bytes of a partition and marks it.
+pub enum Action {
+    /// `start`: it begins its next round (`MPI_Start`, MPI 4.0, 3.9).
+    Start,
+    /// `ready`: the sender writes the bytes of a partition and marks it (`MPI_Pready`, MPI 4.0, 4.2.2).
     Ready {
-        name: Name,
         round: u32,
         partition: u32,
         bytes: Bytes,
     },
-    /// `range`: the same for the partitions from `low` to `high`, both included.
+    /// `range`: the same for the partitions from `low` to `high`, both included (`MPI_Pready_range`).
     ReadyRange {
-        name: Name,
         round: u32,
         low: u32,
         high: u32,
         bytes: Bytes,
     },
-    /// `list`: the same for the partitions that are listed.
+    /// `list`: the same for the partitions that are listed (`MPI_Pready_list`).
     ReadyList {
-        name: Name,
         round: u32,
         parts: Parts,
         bytes: Bytes,
     },
-    /// `arrived`: whether a partition of the receiver has arrived.
+    /// `arrived`: whether a partition of the receiver has arrived (`MPI_Parrived`).
     Arrived {
-        name: Name,
         q: u32,
     },
     /// `take`: a partition of the receiver is taken.
     Take {
-        name: Name,
         q: u32,
     },
     /// `back`: what was taken is given back.
     Back {
-        name: Name,
         q: u32,
     },
-    /// `test`: whether a request has completed its round.
-    Test {
-        name: Name,
-    },
-    /// `free`: a request is given up.
-    Free {
-        name: Name,
-    },
+    /// `test`: whether it has completed its round (`MPI_Test`).
+    Test,
+    /// `free`: it is given up (`MPI_Request_free`, MPI 4.0, 3.7.3).
+    Free,
+}
+
+/// What a line of a script calls, between `world` and `end`.
+#[derive(Debug, Drop)]
+pub enum Call {
+    /// `send`: the sender's side of a message (`MPI_Psend_init`, MPI 4.0, 4.2.1).
+    Send(Init),
+    /// `recv`: the receiver's side (`MPI_Precv_init`).
+    Recv(Init),
+    /// Any other line: what is done with the request of this name.
+    Request { name: Name, action: Action },
 }

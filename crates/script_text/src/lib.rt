@@ -9,7 +9,7 @@ mod reading;
 mod script;
 mod words;
 
-pub use call::{Bytes, Call, Init, Name, Parts};
+pub use call::{Action, Bytes, Call, Init, Name, Parts};
 pub use fault::ScriptFault;
 pub use script::{Limits, Script, parse_script};
 

@@ -4,7 +4,7 @@ ghost use Rattle.std.specs.Prelude.{◌≡◌, codes, bytes_eq, IfOk, IfSome, op
 ghost use Rattle.script_text.specs.Lines.{texts};
 ghost use Rattle.script_text.specs.Calls.{init_of, send_of, recv_of, named_of, start_of, test_of, free_of, placed_of, arrived_of, take_of, back_of, mark_of, ready_of, range_mark_of, range_of, list_mark_of, list_of, request_call_of, mark_call_of, call_of};
 
-use crate::call::{Bytes, Call, Init, Name, Parts};
+use crate::call::{Action, Bytes, Call, Init, Name, Parts};
 use crate::words::number;
 use std::alloc::{AllocError, Global};
 
@@ -68,12 +68,12 @@ fn mark(
     let Some(bytes) = Bytes::new(alloc, bytes)? else {
         return Ok(None);
     };
-    Ok(Some(Call::Ready {
-        name,
+    let action = Action::Ready {
         round,
         partition,
         bytes,
-    }))
+    };
+    Ok(Some(Call::Request { name, action }))
 }
 
 /// The words behind `ready`.
@@ -112,13 +112,13 @@ fn range_mark(
     let Some(bytes) = Bytes::new(alloc, bytes)? else {
         return Ok(None);
     };
-    Ok(Some(Call::ReadyRange {
-        name,
+    let action = Action::ReadyRange {
         round,
         low,
         high,
         bytes,
-    }))
+    };
+    Ok(Some(Call::Request { name, action }))
 }
 
 /// The words behind `range`.
@@ -153,12 +153,12 @@ fn list_mark(
     let Some(bytes) = Bytes::new(alloc, bytes)? else {
         return Ok(None);
     };
-    Ok(Some(Call::ReadyList {
-        name,
+    let action = Action::ReadyList {
         round,
         parts,
         bytes,
-    }))
+    };
+    Ok(Some(Call::Request { name, action }))
 }
 
 /// The words behind `list`.
@@ -169,6 +169,13 @@ fn list(alloc: Global, words: &[&[u8]]) -> Result<Option<Call>, AllocError>
         [name, round, parts, bytes] => list_mark(alloc, name, round, parts, bytes),
         _ => Ok(None),
     }
+}
+
+/// What is done with a request of a name.
+fn request(name: Name, action: Action) -> Call
+    ensures { result ≡ Call.Request name action }
+{
+    Call::Request { name, action }
 }
 
 /// A command that takes no memory, and the words behind it.
@@ -182,22 +189,22 @@ fn request_call(command: &[u8], words: &[&[u8]]) -> Option<Call>
         return init(words).map(Call::Recv);
     }
     if command == b"start".as_slice() {
-        return named(words).map(|name| Call::Start { name });
+        return named(words).map(|name| request(name, Action::Start));
     }
     if command == b"arrived".as_slice() {
-        return placed(words).map(|(name, q)| Call::Arrived { name, q });
+        return placed(words).map(|(name, q)| request(name, Action::Arrived { q }));
     }
     if command == b"take".as_slice() {
-        return placed(words).map(|(name, q)| Call::Take { name, q });
+        return placed(words).map(|(name, q)| request(name, Action::Take { q }));
     }
     if command == b"back".as_slice() {
-        return placed(words).map(|(name, q)| Call::Back { name, q });
+        return placed(words).map(|(name, q)| request(name, Action::Back { q }));
     }
     if command == b"test".as_slice() {
-        return named(words).map(|name| Call::Test { name });
+        return named(words).map(|name| request(name, Action::Test));
     }
     if command == b"free".as_slice() {
-        return named(words).map(|name| Call::Free { name });
+        return named(words).map(|name| request(name, Action::Free));
     }
     None
 }

@@ -33,11 +33,13 @@ fn is_init(init: &Init, name: &[u8], place: [u32; 4], parts: u32, bytes: u32) ->
 /// Whether a call is this mark.
 fn is_ready(call: &Call, of: &[u8], at: [u32; 2], written: &[u8]) -> bool {
     match call {
-        Call::Ready {
+        Call::Request {
             name,
-            round,
-            partition,
-            bytes,
+            action: Action::Ready {
+                round,
+                partition,
+                bytes,
+            },
         } => name.as_slice() == of && [*round, *partition] == at && bytes.as_slice() == written,
         _ => false,
     }
@@ -46,12 +48,14 @@ fn is_ready(call: &Call, of: &[u8], at: [u32; 2], written: &[u8]) -> bool {
 /// Whether a call is this mark of a range.
 fn is_range(call: &Call, of: &[u8], at: [u32; 3], written: &[u8]) -> bool {
     match call {
-        Call::ReadyRange {
+        Call::Request {
             name,
-            round,
-            low,
-            high,
-            bytes,
+            action: Action::ReadyRange {
+                round,
+                low,
+                high,
+                bytes,
+            },
         } => name.as_slice() == of && [*round, *low, *high] == at && bytes.as_slice() == written,
         _ => false,
     }
@@ -60,11 +64,13 @@ fn is_range(call: &Call, of: &[u8], at: [u32; 3], written: &[u8]) -> bool {
 /// Whether a call is this mark of a list.
 fn is_list(call: &Call, of: &[u8], at: u32, listed: &[u32], written: &[u8]) -> bool {
     match call {
-        Call::ReadyList {
+        Call::Request {
             name,
-            round,
-            parts,
-            bytes,
+            action: Action::ReadyList {
+                round,
+                parts,
+                bytes,
+            },
         } => {
             name.as_slice() == of
                 && *round == at
@@ -75,13 +81,11 @@ fn is_list(call: &Call, of: &[u8], at: u32, listed: &[u32], written: &[u8]) -> b
     }
 }
 
-/// Whether a call is about this partition.
-fn is_placed(call: &Call, of: &[u8], at: u32) -> bool {
+/// What is done, where a call is of this request.
+fn action_of<'a>(call: &'a Call, of: &[u8]) -> Option<&'a Action> {
     match call {
-        Call::Arrived { name, q } | Call::Take { name, q } | Call::Back { name, q } => {
-            name.as_slice() == of && *q == at
-        }
-        _ => false,
+        Call::Request { name, action } if name.as_slice() == of => Some(action),
+        _ => None,
     }
 }
 
@@ -96,16 +100,16 @@ fn each_line_is_read(rt: HostRuntime) -> Result<(), Fail> {
     assert_eq!(rt; calls.len(), 12);
     assert!(rt; matches!(&calls[0], Call::Send(init) if is_init(init, b"a", [0, 1, 7, 3], 2, 4)));
     assert!(rt; matches!(&calls[1], Call::Recv(init) if is_init(init, b"b", [0, 1, 7, 3], 4, 2)));
-    assert!(rt; matches!(&calls[2], Call::Start { name } if name.as_slice() == b"a".as_slice()));
+    assert!(rt; matches!(action_of(&calls[2], b"a"), Some(Action::Start)));
     assert!(rt; is_ready(&calls[3], b"a", [1, 1], &[10, 255, 16, 178]));
     assert!(rt; is_ready(&calls[4], b"a", [1, 0], &[]));
     assert!(rt; is_range(&calls[5], b"a", [1, 0, 1], &[171]));
     assert!(rt; is_list(&calls[6], b"a", 2, &[7, 0, 7], &[0]));
-    assert!(rt; matches!(calls[7], Call::Arrived { .. }) && is_placed(&calls[7], b"b", 3));
-    assert!(rt; matches!(calls[8], Call::Take { .. }) && is_placed(&calls[8], b"b", 2));
-    assert!(rt; matches!(calls[9], Call::Back { .. }) && is_placed(&calls[9], b"b", 1));
-    assert!(rt; matches!(&calls[10], Call::Test { name } if name.as_slice() == b"b".as_slice()));
-    assert!(rt; matches!(&calls[11], Call::Free { name } if name.as_slice() == b"b".as_slice()));
+    assert!(rt; matches!(action_of(&calls[7], b"b"), Some(Action::Arrived { q: 3 })));
+    assert!(rt; matches!(action_of(&calls[8], b"b"), Some(Action::Take { q: 2 })));
+    assert!(rt; matches!(action_of(&calls[9], b"b"), Some(Action::Back { q: 1 })));
+    assert!(rt; matches!(action_of(&calls[10], b"b"), Some(Action::Test)));
+    assert!(rt; matches!(action_of(&calls[11], b"b"), Some(Action::Free)));
     Ok(())
 }
 
