@@ -15,6 +15,7 @@ use Rattle.plain_pair.specs.declared.answers.PlainStop.{PlainStop}
 use Rattle.plain_pair.specs.Record.{Record}
 use Rattle.plain_pair.specs.Moves.{marked, pready_answer, after_pready}
 use Rattle.plain_pair.specs.Kept.{Kept}
+use Rattle.plain_pair.specs.Sides.{SameSides}
 use Rattle.plain_pair.specs.StandsFor.{StandsFor, Follows}
 use Rattle.plain_pair.specs.Many.{Progress, no_progress, counted, mark_one_more, part_of, entries, progress, progress_unless, told, whole_length, whole_range, range_parts}
 use Rattle.plain_pair.specs.Growing.{IsAt, GoesOn}
@@ -47,6 +48,10 @@ goes_on_refused old new k count sent p bytes cause follows done at =
     let next : after_pready old.shape done.after k p bytes ≡ done.after = rw (← f.0) refl in
     let stands = subst (StandsFor new) next f.1 in
     rw e (stands, ap (λ n. Err record { at = n; cause = cause }) (sym at.count))
+
+-- the sides stay over one mark more
+pub sides_stay : {a b c : Kept} → SameSides a b → SameSides b c → SameSides a c
+sides_stay h g = record { send = g.send ∙ h.send; recv = g.recv ∙ h.recv }
 
 -- the i-th entry
 entry_at : (g : Shape) (parts bytes : List ℕ) (i p : ℕ) → i < length parts → p ≡ get_or parts i 0 → get_or (entries g parts bytes) i (0, []) ≡ (p, part_of g bytes i)

@@ -14,3 +14,4 @@ pub mod Marking
 pub mod Looking
 pub mod Many
 pub mod Growing
+pub mod Sides

@@ -3,6 +3,7 @@
 ghost use Rattle.std.specs.Prelude.{◌≡◌, ◌+◌, ◌-◌, ◌*◌, ◌≤◌, ◌==◌, length, OnOk};
 ghost use Rattle.plain_pair.specs.Growing.{GoesOn, IsAt, IsCounted};
 ghost use Rattle.plain_pair.specs.Many.{after_pready_list, after_pready_range, mark_one_more, part_of, pready_list_answer, pready_range_answer};
+ghost use Rattle.plain_pair.specs.Sides.{SameSides};
 ghost use Rattle.plain_pair.specs.StandsFor.{Follows};
 
 use crate::answers::{PlainRefusal, PlainStop};
@@ -22,6 +23,7 @@ impl PlainPair {
         bytes: &[u8],
     ) -> Result<Marks, PlainStop>
         ensures shape { self.new.shape ≡ self.old.shape }
+        ensures sides { SameSides self.old self.new }
         ensures answer { Follows self.old self.new result
             (λ r. pready_range_answer self.old.shape r round low high bytes.now)
             (λ r. after_pready_range self.old.shape r round low high bytes.now) }
@@ -50,6 +52,7 @@ impl PlainPair {
         bytes: &[u8],
     ) -> Result<Marks, PlainStop>
         ensures shape { self.new.shape ≡ self.old.shape }
+        ensures sides { SameSides self.old self.new }
         ensures answer { Follows self.old self.new result
             (λ r. pready_list_answer self.old.shape r round parts.now bytes.now)
             (λ r. after_pready_list self.old.shape r round parts.now bytes.now) }
@@ -77,6 +80,7 @@ impl PlainPair {
         requires counts { IsCounted self.old marks.old }
         requires bytes { (marks.old.count + 1) * self.old.shape.send_bytes ≤ length bytes.now }
         ensures shape { self.new.shape ≡ self.old.shape }
+        ensures sides { SameSides self.old self.new }
         ensures round { marks.new.round ≡ marks.old.round }
         ensures counts { OnOk result (IsCounted self.new marks.new) }
         ensures count { OnOk result (marks.new.count ≡ marks.old.count + 1) }

@@ -1,6 +1,6 @@
 //! The object.
 
-ghost use Rattle.std.specs.Prelude.{◌≡◌, ◌<◌, ◌≤◌, None, length, IfOk};
+ghost use Rattle.std.specs.Prelude.{◌≡◌, ◌<◌, ◌≤◌, None, false, length, IfOk};
 ghost use Rattle.plain_pair.specs.Moves.{start_answer};
 
 use crate::answers::{PlainLook, PlainRefusal, PlainSendTest, PlainTake};
@@ -81,6 +81,7 @@ impl PlainPair {
     ghost use Rattle.plain_pair.specs.Looking.{CanTake, IsOut, Takes, kept_missing, take_refusal};
     ghost use Rattle.plain_pair.specs.Growing.{Grows};
     ghost use Rattle.plain_pair.specs.Marking.{CanMark, Marks, refusal};
+    ghost use Rattle.plain_pair.specs.Sides.{SameSides, recv_side, send_side, side_received, side_sent, side_started};
     ghost use Rattle.plain_pair.specs.StandsFor.{StandsFor, Follows};
 
     /// A pair of a geometry with both sides inactive, before the first round (`MPI_Psend_init` and
@@ -129,6 +130,9 @@ impl PlainPair {
     pub fn start_send(&mut self) -> Result<u32, StartFault>
         ensures shape { self.new.shape ≡ self.old.shape }
         ensures answer { Follows self.old self.new result start_send_answer after_start_send }
+        ensures by_side { result ≡ start_answer self.old.sending self.old.sent }
+        ensures side { send_side self.new ≡ side_started result (send_side self.old) }
+        ensures other_side { recv_side self.new ≡ recv_side self.old }
     {
         let round = next_round(self.sending, self.sent)?;
         self.sent = round;
@@ -143,6 +147,9 @@ impl PlainPair {
     pub fn start_recv(&mut self) -> Result<u32, StartFault>
         ensures shape { self.new.shape ≡ self.old.shape }
         ensures answer { Follows self.old self.new result start_recv_answer after_start_recv }
+        ensures by_side { result ≡ start_answer self.old.receiving self.old.received }
+        ensures side { recv_side self.new ≡ side_started result (recv_side self.old) }
+        ensures other_side { send_side self.new ≡ send_side self.old }
     {
         let round = next_round(self.receiving, self.received)?;
         self.received = round;
@@ -169,6 +176,7 @@ impl PlainPair {
     /// round, or the partition is marked already; nothing changes then.
     pub fn pready(&mut self, round: u32, p: u32, bytes: &[u8]) -> Result<Marked, PlainRefusal>
         ensures shape { self.new.shape ≡ self.old.shape }
+        ensures sides { SameSides self.old self.new }
         ensures answer { Follows self.old self.new result
             (λ r. pready_answer self.old.shape r round p bytes.now)
             (λ r. after_pready self.old.shape r round p bytes.now) }
@@ -184,6 +192,7 @@ impl PlainPair {
         bytes: &[u8],
     ) -> Result<Marked, PlainRefusal>
         ensures shape { self.new.shape ≡ self.old.shape }
+        ensures sides { SameSides self.old self.new }
         ensures answer { Follows self.old self.new result
             (λ r. pready_answer self.old.shape r round p bytes.now)
             (λ r. after_pready self.old.shape r round p bytes.now) }
@@ -224,6 +233,7 @@ impl PlainPair {
         requires free { CanMark self.old p }
         requires length { length bytes.now ≡ self.old.shape.send_bytes }
         ensures shape { self.new.shape ≡ self.old.shape }
+        ensures sides { SameSides self.old self.new }
         ensures marks { Marks self.old self.new p bytes.now result }
         ensures grows { Grows self.old self.new result }
     {
@@ -271,6 +281,7 @@ impl PlainPair {
     /// a piece over it isn't out; nothing changes then.
     pub fn take(&mut self, q: u32) -> Result<PlainArrival, PlainTake>
         ensures shape { self.new.shape ≡ self.old.shape }
+        ensures sides { SameSides self.old self.new }
         ensures answer { Follows self.old self.new result
             (λ r. take_answer self.old.shape r q) (λ r. after_take self.old.shape r q) }
         ensures out { IfOk result (λ taken. IsOut self.new taken) }
@@ -317,6 +328,7 @@ impl PlainPair {
         requires free { CanTake self.old q }
         requires arrived { kept_missing self.old q ≡ None }
         ensures shape { self.new.shape ≡ self.old.shape }
+        ensures sides { SameSides self.old self.new }
         ensures takes { Takes self.old self.new q result }
         ensures out { IsOut self.new result }
     {
@@ -331,6 +343,7 @@ impl PlainPair {
     pub fn give_back(&mut self, arrival: PlainArrival)
         requires { IsOut self.old arrival }
         ensures shape { self.new.shape ≡ self.old.shape }
+        ensures sides { SameSides self.old self.new }
         ensures back { (r : _) → StandsFor self.old r → StandsFor self.new (gave_back r arrival.partition) }
     {
         let q = arrival.partition() as usize;
@@ -345,6 +358,9 @@ impl PlainPair {
         ensures shape { self.new.shape ≡ self.old.shape }
         ensures answer { Follows self.old self.new result
             (λ r. test_send_answer self.old.shape r) (λ r. after_test_send self.old.shape r) }
+        ensures idle { self.old.sending ≡ false → result ≡ PlainSendTest.Idle }
+        ensures side { send_side self.new ≡ side_sent result (send_side self.old) }
+        ensures other_side { recv_side self.new ≡ recv_side self.old }
     {
         let geometry = self.tables.geometry();
         if !self.sending {
@@ -368,6 +384,9 @@ impl PlainPair {
         ensures shape { self.new.shape ≡ self.old.shape }
         ensures answer { Follows self.old self.new result
             (λ r. test_recv_answer self.old.shape r) (λ r. after_test_recv self.old.shape r) }
+        ensures idle { self.old.receiving ≡ false → result ≡ RecvTest.Idle }
+        ensures side { recv_side self.new ≡ side_received result (recv_side self.old) }
+        ensures other_side { send_side self.new ≡ send_side self.old }
     {
         let _tables = &self.tables;
         if !self.receiving {

@@ -1,6 +1,6 @@
 use Rattle.std.proofs.Common.{refl, ◌∙◌, arith}
 use Rattle.std.proofs.lemmas.Result.{err_from_is_err_and}
-use Rattle.plain_pair.proofs.ManyMarks.{list_fits, at_next, follows_all, follows_stopped}
+use Rattle.plain_pair.proofs.ManyMarks.{sides_stay, list_fits, at_next, follows_all, follows_stopped}
 use Rattle.plain_pair.proofs.pair.PlainPair.pready_list.Goals as goal
 
 pub returns-in_err-mark_next-clause-answer : goal.returns-in_err-mark_next-clause-answer
@@ -18,6 +18,7 @@ loop-p-preserved c =
     let e = c.in_ok-mark_next.ensures in
     record {
       shape = e.shape ∙ inv.shape;
+      sides = sides_stay inv.sides e.sides;
       round = e.round ∙ inv.round;
       count = (let n = e.count in let m = inv.count in omega arith);
       counts = e.counts;

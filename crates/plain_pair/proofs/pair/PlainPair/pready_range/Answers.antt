@@ -1,7 +1,7 @@
 use Rattle.std.proofs.Common.{◌+◌, ◌-◌, ap, ◌∙◌, arith}
 use Rattle.std.proofs.lemmas.Result.{err_from_is_err_and}
 use Rattle.plain_pair.specs.Many.{range_parts}
-use Rattle.plain_pair.proofs.ManyMarks.{range_fits, range_misfits, range_many, range_at, at_next, follows_all, follows_stopped, follows_whole}
+use Rattle.plain_pair.proofs.ManyMarks.{sides_stay, range_fits, range_misfits, range_many, range_at, at_next, follows_all, follows_stopped, follows_whole}
 use Rattle.plain_pair.proofs.pair.PlainPair.pready_range.Goals as goal
 
 pub returns-then-not-has_length-clause-answer : goal.returns-then-not-has_length-clause-answer
@@ -34,6 +34,7 @@ loop-i-preserved c =
     let many = range_many c.args.low c.args.high in
     record {
       shape = e.shape ∙ inv.shape;
+      sides = sides_stay inv.sides e.sides;
       round = e.round ∙ inv.round;
       count = (let n = e.count in let m = inv.count in omega arith);
       counts = e.counts;

@@ -1,0 +1,2 @@
+pub mod Req
+pub mod States

@@ -1,0 +1,7 @@
+-- A request as contracts see it.
+use Rattle.part_api.specs.declared.request.Side.{Side}
+use Rattle.part_api.specs.declared.request.ReqState.{ReqState}
+
+pub record Req : Type 0 where
+  pub side : Side
+  pub state : ReqState
