@@ -11,8 +11,9 @@ use part_api::Side;
 use script_text::Action;
 use std::alloc::{AllocError, Global};
 
-/// Whether an action is of the other side than this one.
-fn is_wrong_side(side: Side, action: &Action) -> bool
+/// Whether an action is of the other side than this one: a mark of the receive side, or a look, a take or a return of
+/// the send side.
+pub fn is_wrong_side(side: Side, action: &Action) -> bool
     ensures { result ≡ is_wrong_side side action.now }
 {
     match action {

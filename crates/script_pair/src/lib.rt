@@ -5,7 +5,9 @@ mod action;
 mod held;
 mod texts;
 
+pub use action::is_wrong_side;
 pub use held::MatchedPair;
+pub use texts::closed;
 
 #[cfg(test)]
 mod tests;
