@@ -1,0 +1,4 @@
+pub mod KeyFacts
+pub mod Placing
+pub mod LedgerFacts
+pub mod PairFacts
