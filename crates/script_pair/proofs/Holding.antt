@@ -1,5 +1,5 @@
 -- What a matched pair keeps through each of its calls.
-use Rattle.std.proofs.Common.{◌≡◌, ◌≢◌, ℕ, ◌<◌, ◌==◌, nat_lt, Bool, true, false, ◌&&◌, not, if◌then◌else◌, Option, Some, None, Result, Ok, Err, is_ok, List, length, get_or, set, refl, sym, ap, ◌∙◌, subst, arith, tests, inl, inr}
+use Rattle.std.proofs.Common.{◌≡◌, ℕ, ◌<◌, nat_lt, Bool, true, false, ◌&&◌, not, Option, Some, None, Result, Ok, Err, List, length, get_or, set, refl, sym, ap, ◌∙◌, subst, arith, tests, inl, inr}
 use Rattle.std.specs.FinSet as parts
 use Rattle.std.specs.List.{All}
 use Rattle.std.proofs.lemmas.Bool.{cases_eq}
@@ -8,7 +8,6 @@ use Rattle.std.proofs.lemmas.List.{length-set, get_or-set_same, get_or-set_other
 use Rattle.part_geometry.specs.declared.answers.RecvTest.{RecvTest}
 use Rattle.part_geometry.specs.declared.answers.RecvTest.TheVariants as recv
 use Rattle.part_geometry.specs.Shape.{Shape}
-use Rattle.part_api.specs.declared.faults.FreeFault.{FreeFault}
 use Rattle.part_api.specs.declared.faults.Freed.{Freed}
 use Rattle.part_api.specs.declared.faults.ReqFault.{ReqFault}
 use Rattle.part_api.specs.declared.request.ReqState.{ReqState}
@@ -21,7 +20,7 @@ use Rattle.plain_pair.specs.declared.answers.PlainSendTest.{PlainSendTest}
 use Rattle.plain_pair.specs.declared.answers.PlainSendTest.TheVariants as send
 use Rattle.plain_pair.specs.declared.answers.PlainTake.{PlainTake}
 use Rattle.plain_pair.specs.Record.{Record, first_record}
-use Rattle.plain_pair.specs.Moves.{on_ok, took, taken_of, take_answer, after_take, gave_back, after_start_recv, received_done, test_recv_answer}
+use Rattle.plain_pair.specs.Moves.{took, taken_of, take_answer, after_take, gave_back, after_start_recv, received_done, test_recv_answer}
 use Rattle.plain_pair.specs.Kept.{Kept, has}
 use Rattle.plain_pair.specs.Looking.{IsOut}
 use Rattle.plain_pair.specs.Sides.{SideState, send_side, recv_side, SameSides}

@@ -1,12 +1,11 @@
 -- What is kept stays kept: through the calls that take and give back nothing, and beside a partition that is taken
 -- or given back.
-use Rattle.std.proofs.Common.{◌≡◌, ◌≢◌, ℕ, ◌+◌, ◌<◌, ◌==◌, nat_lt, Bool, true, false, ◌&&◌, ◌||◌, not, if◌then◌else◌, Option, Some, None, Result, Ok, Err, is_ok, is_some, List, [], ◌∷◌, length, get_or, set, fold, refl, sym, ap, ◌∙◌, subst, arith, tests, inl, inr}
+use Rattle.std.proofs.Common.{◌≡◌, ◌≢◌, ℕ, ◌<◌, ◌==◌, Bool, true, false, ◌&&◌, ◌||◌, not, if◌then◌else◌, Option, Some, None, Result, Ok, Err, is_some, List, [], ◌∷◌, fold, refl, sym, ap, ◌∙◌, subst, arith, tests, inl, inr}
 use Rattle.std.specs.FinSet as parts
 use Rattle.std.specs.Cmp.{nat_cmp_total}
 use Rattle.std.specs.Option.{option_map_or}
 use Rattle.std.specs.Ordering.{nat_cmp}
-use Rattle.std.proofs.lemmas.Bool.{cases_eq, cases_Bool, ne_eqb, eq-eqb}
-use Rattle.std.proofs.lemmas.List.{length-set, get_or-set_same, get_or-set_other}
+use Rattle.std.proofs.lemmas.Bool.{cases_Bool, ne_eqb, eq-eqb}
 use Rattle.part_geometry.specs.declared.answers.Marked.{Marked}
 use Rattle.part_geometry.specs.declared.answers.RecvTest.{RecvTest}
 use Rattle.part_geometry.specs.declared.answers.RecvTest.TheVariants as recv
@@ -14,9 +13,9 @@ use Rattle.part_geometry.specs.Shape.{Shape}
 use Rattle.plain_pair.specs.declared.answers.PlainRefusal.{PlainRefusal}
 use Rattle.plain_pair.specs.declared.answers.PlainSendTest.{PlainSendTest}
 use Rattle.plain_pair.specs.declared.answers.PlainSendTest.TheVariants as send
-use Rattle.plain_pair.specs.Record.{Record, no_parts}
-use Rattle.plain_pair.specs.Moves.{on_ok, started_send, start_send_answer, after_start_send, started_recv, start_recv_answer, after_start_recv, marked, pready_answer, after_pready, least_without, test_send_answer, sent_done, after_test_send, test_recv_answer, received_done, after_test_recv, took, gave_back}
-use Rattle.plain_pair.specs.Many.{Progress, no_progress, counted, mark_one_more, progress, progress_unless, range_progress, list_progress, after_pready_range, after_pready_list}
+use Rattle.plain_pair.specs.Record.{Record}
+use Rattle.plain_pair.specs.Moves.{on_ok, started_send, start_send_answer, after_start_send, started_recv, after_start_recv, marked, pready_answer, after_pready, least_without, sent_done, test_recv_answer, received_done, took, gave_back}
+use Rattle.plain_pair.specs.Many.{Progress, no_progress, counted, mark_one_more, progress_unless}
 use Rattle.plain_pair.specs.Kept.{Kept, has}
 use Rattle.plain_pair.specs.Looking.{IsOut}
 use Rattle.plain_pair.specs.StandsFor.{StandsFor}

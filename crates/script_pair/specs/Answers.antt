@@ -1,5 +1,5 @@
 -- What an action on a request of a matched pair answers, and what is known after it.
-use Rattle.std.specs.Prelude.{ℕ, Bool, true, false, not, if◌then◌else◌, codes, List, Result, Ok}
+use Rattle.std.specs.Prelude.{ℕ, Bool, true, false, if◌then◌else◌, codes, List, Result, Ok}
 use Rattle.part_geometry.specs.declared.answers.StartFault.{StartFault}
 use Rattle.part_geometry.specs.Shape.{Shape}
 use Rattle.part_api.specs.declared.request.Side.{Side}

@@ -1,6 +1,5 @@
-use Rattle.std.proofs.Common.{◌≡◌}
 use Rattle.plain_pair.specs.Sides.{send_side, recv_side}
-use Rattle.script_pair.proofs.Holding.{holds, matched_freed, agrees_freed}
+use Rattle.script_pair.proofs.Holding.{matched_freed, agrees_freed}
 use Rattle.script_pair.proofs.held.MatchedPair.free.Goals as goal
 
 pub invariant_of-self : goal.invariant_of-self

@@ -1,6 +1,5 @@
-use Rattle.std.proofs.Common.{◌≡◌, true, refl, ap, sym, subst}
+use Rattle.std.proofs.Common.{◌≡◌, true, sym, subst}
 use Rattle.part_api.specs.States.{Agrees, is_in_use}
-use Rattle.script_pair.specs.Held.{IsRequest}
 use Rattle.script_pair.proofs.Holding.{held_same, held_started, matched_started}
 use Rattle.script_pair.proofs.Keeping.{start_send_same}
 use Rattle.script_pair.proofs.held.MatchedPair.start.Goals as goal
