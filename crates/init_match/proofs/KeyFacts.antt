@@ -1,12 +1,11 @@
 -- The map of keys and the lists behind it.
-use Rattle.std.proofs.Common.{◌≡◌, ◌≢◌, ℕ, ◌+◌, ◌<◌, ◌==◌, Bool, true, false, cond, ◌&&◌, Some, None, Option, Ok, Err, Result, List, [], ◌∷◌, ◌++◌, length, get_or, set, length-append, refl, ap, sym, subst, ◌∙◌, arith, inl, inr}
-use Rattle.std.specs.Option.{option_map_or}
+use Rattle.std.proofs.Common.{◌≡◌, ◌≢◌, ℕ, ◌+◌, ◌==◌, Bool, true, false, cond, ◌&&◌, Some, None, Option, Ok, Err, Result, [], ◌∷◌, ◌++◌, length, get_or, set, length-append, refl, ap, sym, ◌∙◌, arith, inl, inr}
 use Rattle.std.specs.Result.{OnOk, OnErr}
 use Rattle.std.specs.Ordering.{nat_cmp, ordering_then, is_eq}
 use Rattle.std.specs.Cmp.{unsigned_ties}
 use Rattle.std.specs.declared.cmp.Ordering.{Ordering}
 use Rattle.std.specs.declared.cmp.Ordering.TheVariants.{Less, Equal, Greater}
-use Rattle.std.proofs.lemmas.Bool.{cases_Bool, cases_lt, cases_eq, eqb-true, eq-eqb, and_parts, and_from, false≢true, cond-true, cond-false}
+use Rattle.std.proofs.lemmas.Bool.{cases_Bool, eqb-true, eq-eqb, and_parts, and_from, false≢true, cond-true, cond-false}
 use Rattle.std.proofs.Math.Seq.{get_or-append_seam}
 use Rattle.std.proofs.lemmas.List.{get_or_append_left, length-set, get_or-set_same, get_or-set_other}
 use Rattle.init_match.specs.declared.keys.Side.{Side}

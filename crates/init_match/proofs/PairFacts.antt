@@ -1,6 +1,6 @@
 -- The pairs of a list of calls, and what holds of a world.
-use Rattle.std.proofs.Common.{◌≡◌, ℕ, zero, suc, ◌+◌, ◌*◌, Bool, true, nat_le, ◌<◌, ◌≤◌, Some, None, Option, Ok, Err, Result, List, [], ◌∷◌, ◌++◌, length, map, refl, ap, sym, subst, ◌∙◌, arith, inl, inr, length-append, append_assoc}
-use Rattle.std.specs.List.{slice_get, sum_by}
+use Rattle.std.proofs.Common.{◌≡◌, ℕ, zero, suc, ◌+◌, Bool, true, nat_le, ◌≤◌, Some, None, Option, Ok, Err, Result, List, [], ◌∷◌, ◌++◌, length, map, refl, ap, sym, subst, ◌∙◌, arith, length-append, append_assoc}
+use Rattle.std.specs.List.{slice_get}
 use Rattle.std.specs.Option.{option_map, option_map_or, option_to_list}
 use Rattle.std.proofs.lemmas.Bool.{and_parts, leb-true}
 use Rattle.part_geometry.specs.Shape.{IsWithin}
@@ -12,7 +12,7 @@ use Rattle.init_match.specs.declared.answers.Matched.{Matched}
 use Rattle.init_match.specs.declared.keys.Call.{Call}
 use Rattle.init_match.specs.declared.world.World.TheInside.{Inside}
 use Rattle.init_match.specs.Calls.{total, facing}
-use Rattle.init_match.specs.Matching.{Pair, partner_before, turn_of, completed_by, pairs_after, pairs_of}
+use Rattle.init_match.specs.Matching.{partner_before, turn_of, completed_by, pairs_after, pairs_of}
 use Rattle.init_match.specs.World.{Calls, completed_answer, is_within, matched_as, size_fault, volume}
 use Rattle.init_match.specs.Sound.{IsFit, IsWorld}
 use Rattle.init_match.proofs.Placing.{stands_at}

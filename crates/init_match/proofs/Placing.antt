@@ -1,5 +1,5 @@
 -- The calls of a side and a key, with their slots.
-use Rattle.std.proofs.Common.{Bor, ltb, ◌≡◌, ℕ, zero, suc, ◌+◌, ◌-◌, ◌<◌, ◌≤◌, Bool, true, false, cond, ◌&&◌, Some, None, Option, List, [], ◌∷◌, ◌++◌, length, get_or, take, map, refl, ap, sym, subst, ◌∙◌, arith, inl, inr, length-append, append_assoc}
+use Rattle.std.proofs.Common.{Bor, ltb, ◌≡◌, ℕ, zero, suc, ◌+◌, ◌-◌, ◌≤◌, true, cond, Some, None, Option, List, [], ◌∷◌, ◌++◌, length, get_or, take, map, refl, ap, sym, subst, ◌∙◌, arith, inl, inr, append_assoc}
 use Rattle.std.specs.List.{enumerate_from, filter, slice_get}
 use Rattle.std.specs.Option.{option_map, option_copied, is_some, IfSome}
 use Rattle.std.proofs.lemmas.Bool.{cases_Bool, ltb-true, ltb-false}
@@ -7,7 +7,6 @@ use Rattle.std.proofs.lemmas.List.{map-append}
 use Rattle.std.proofs.lemmas.List.Elements.{filter-append}
 use Rattle.std.proofs.lemmas.Option.{slice_get-map, slice_get_past, slice_get_read}
 use Rattle.init_match.specs.declared.keys.Side.{Side}
-use Rattle.init_match.specs.declared.keys.Side.TheVariants.{Send, Recv}
 use Rattle.init_match.specs.declared.keys.Key.{Key}
 use Rattle.init_match.specs.declared.keys.Call.{Call}
 use Rattle.init_match.specs.Calls.{is_of, of_key, slots_of, facing}
@@ -61,7 +60,7 @@ later n x xs s q e h =
     let low = h.low in
     record { low = omega arith; there = ap (slice_get (x ∷ xs)) (let z : e.0 - n ≡ suc (e.0 - (n + 1)) = omega arith in z) ∙ h.there; of = h.of }
 
-stands : (s : Side) (q : Key) (n : ℕ) (calls : List Call) (k : ℕ) (e : ℕ × Call) → slice_get (filter (λ e. is_of s q e.1) (enumerate_from n calls)) k ≡ Some e → StandsAt n calls s q e
+pub stands : (s : Side) (q : Key) (n : ℕ) (calls : List Call) (k : ℕ) (e : ℕ × Call) → slice_get (filter (λ e. is_of s q e.1) (enumerate_from n calls)) k ≡ Some e → StandsAt n calls s q e
 stands s q n [] k e is = cc
 stands s q n (x ∷ xs) k e is =
     elim (cases_Bool (is_of s q x)) [

@@ -3,7 +3,6 @@ use Rattle.std.specs.Prelude.{◌≡◌, ℕ, List, [], ◌∷◌, ◌++◌}
 use Rattle.init_match.specs.declared.keys.Side.{Side}
 use Rattle.init_match.specs.declared.keys.Key.{Key}
 use Rattle.init_match.specs.declared.keys.Call.{Call}
-use Rattle.init_match.specs.declared.keys.KeyLists.{KeyLists}
 use Rattle.init_match.specs.declared.ledger.Ledger.TheInside.{Inside}
 use Rattle.init_match.specs.Calls.{slots_of}
 use Rattle.init_match.specs.KeyLists.{IsKeyLists, lists_of}

@@ -5,3 +5,4 @@ pub mod Matching
 pub mod Ledger
 pub mod World
 pub mod Sound
+pub mod Merges

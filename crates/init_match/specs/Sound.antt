@@ -1,5 +1,5 @@
 -- What holds of a world between calls.
-use Rattle.std.specs.Prelude.{◌≡◌, ℕ, ◌≤◌, Some, List, length, map, slice_get}
+use Rattle.std.specs.Prelude.{◌≡◌, ℕ, ◌≤◌, Some, length, map, slice_get}
 use Rattle.part_geometry.specs.Shape.{IsWithin}
 use Rattle.init_match.specs.declared.keys.Call.{Call}
 use Rattle.init_match.specs.declared.world.World.TheInside.{Inside}

@@ -3,6 +3,7 @@
 
 mod answers;
 mod keys;
+mod laws;
 mod ledger;
 mod numbers;
 #[cfg(test)]
@@ -10,4 +11,5 @@ mod tests;
 mod world;
 
 pub use answers::{InitFault, Matched, WorldFault};
+pub use laws::match_laws;
 pub use world::World;

@@ -1,6 +1,4 @@
 use Rattle.std.proofs.Common.{◌≡◌, length, refl, sym, ◌∙◌, arith}
-use Rattle.init_match.specs.declared.keys.KeyLists.{KeyLists}
-use Rattle.init_match.specs.KeyLists.{place_of}
 use Rattle.init_match.proofs.KeyFacts.{IsPlaced, same_lists, valid_placed, same_placed}
 use Rattle.init_match.proofs.keys.KeyLists.place.Goals as goal
 

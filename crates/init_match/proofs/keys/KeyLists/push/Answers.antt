@@ -1,7 +1,6 @@
-use Rattle.std.proofs.Common.{◌≡◌, length, refl, ap, sym, ◌∙◌, arith}
+use Rattle.std.proofs.Common.{refl, ap, ◌∙◌}
 use Rattle.init_match.specs.Slots.{appended}
-use Rattle.init_match.specs.Calls.{same_key, same_side}
-use Rattle.init_match.proofs.KeyFacts.{on_ok_by, on_err_by, same_lists, lists_pushed, valid_pushed}
+use Rattle.init_match.proofs.KeyFacts.{on_ok_by, on_err_by, same_lists, lists_pushed}
 use Rattle.init_match.proofs.keys.KeyLists.push.Goals as goal
 
 pub returns-clause-ok : goal.returns-clause-ok

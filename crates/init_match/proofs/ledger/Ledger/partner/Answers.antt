@@ -1,8 +1,8 @@
-use Rattle.std.proofs.Common.{◌≡◌, ◌<◌, Some, [], get_or, length, take, refl, ap, sym, subst, ◌∙◌, arith}
+use Rattle.std.proofs.Common.{◌≡◌, ◌<◌, Some, [], get_or, length, take, refl, ap, sym, ◌∙◌, arith}
 use Rattle.std.specs.List.{slice_get}
 use Rattle.std.proofs.lemmas.List.{get_or_read}
 use Rattle.std.proofs.lemmas.Option.{slice_get_past, slice_get_read}
-use Rattle.init_match.specs.Matching.{partner_of, turn_of}
+use Rattle.init_match.specs.Matching.{turn_of}
 use Rattle.init_match.specs.KeyLists.{lists_of}
 use Rattle.init_match.specs.Calls.{slots_of, facing}
 use Rattle.init_match.proofs.Placing.{partner_at, partner_past, turn_at, turns_many, got}

@@ -1,6 +1,5 @@
-use Rattle.std.proofs.Common.{◌≡◌, ◌<◌, length, Some, refl, ap, sym, ◌∙◌, arith}
+use Rattle.std.proofs.Common.{◌<◌, length, Some, ap, sym, ◌∙◌, arith}
 use Rattle.std.proofs.lemmas.Option.{slice_get_within, get_or_from_slice_get}
-use Rattle.init_match.specs.Matching.{partner_before}
 use Rattle.init_match.proofs.LedgerFacts.{found, not_found}
 use Rattle.init_match.proofs.ledger.Ledger.partner_before.Goals as goal
 

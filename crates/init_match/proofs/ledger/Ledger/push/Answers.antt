@@ -1,8 +1,8 @@
-use Rattle.std.proofs.Common.{◌≡◌, ◌<◌, ◌^◌, List, [], ◌∷◌, ◌++◌, length, refl, ap, sym, ◌∙◌, arith}
+use Rattle.std.proofs.Common.{◌≡◌, ◌<◌, [], ◌∷◌, ◌++◌, length, refl, ap, ◌∙◌, arith}
 use Rattle.init_match.specs.Calls.{is_of}
 use Rattle.init_match.specs.KeyLists.{lists_of}
 use Rattle.init_match.specs.Slots.{appended}
-use Rattle.init_match.proofs.LedgerFacts.{few_own, grown, IsGrown}
+use Rattle.init_match.proofs.LedgerFacts.{few_own, grown}
 use Rattle.init_match.proofs.ledger.Ledger.push.Goals as goal
 
 pub overflow_cast-turn : goal.overflow_cast-turn

@@ -1,4 +1,4 @@
-use Rattle.std.proofs.Common.{sym, ◌∙◌}
+use Rattle.std.proofs.Common.{sym}
 use Rattle.init_match.proofs.PairFacts.{partner_fits}
 use Rattle.init_match.proofs.world.World.completed.Goals as goal
 

@@ -1,8 +1,7 @@
-use Rattle.std.proofs.Common.{◌≡◌, ◌+◌, ◌*◌, Some, None, List, [], ◌∷◌, ◌++◌, refl, ap, sym, subst, ◌∙◌, arith}
+use Rattle.std.proofs.Common.{◌≡◌, ◌+◌, ◌++◌, refl, ap, sym, subst, ◌∙◌, arith}
 use Rattle.std.specs.Option.{option_map, option_to_list}
 use Rattle.init_match.specs.Matching.{completed_by}
 use Rattle.init_match.specs.World.{matched_as}
-use Rattle.init_match.specs.Sound.{IsWorld, calls_of}
 use Rattle.init_match.proofs.PairFacts.{world_grown, append_none, completed_is, none_is}
 use Rattle.init_match.proofs.world.World.init.Goals as goal
 
