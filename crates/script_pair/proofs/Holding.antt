@@ -109,7 +109,7 @@ held_tested h new r i requests known shape =
     known
 
 -- a take
-taken_is : (g : Shape) (r : Record) (q : ℕ) (t : Taken) → Ok t ≡ take_answer g r q → t ≡ taken_of g r q
+pub taken_is : (g : Shape) (r : Record) (q : ℕ) (t : Taken) → Ok t ≡ take_answer g r q → t ≡ taken_of g r q
 taken_is g r q t is = grind (arith, tests, common_steps)
 
 after_is : (g : Shape) (r : Record) (q : ℕ) (t : Taken) → Ok t ≡ take_answer g r q → after_take g r q ≡ took r q

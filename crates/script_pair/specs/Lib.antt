@@ -2,3 +2,4 @@ pub mod Desk
 pub mod Texts
 pub mod Answers
 pub mod Held
+pub mod Laws

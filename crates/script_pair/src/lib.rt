@@ -3,10 +3,12 @@
 
 mod action;
 mod held;
+mod laws;
 mod texts;
 
 pub use action::is_wrong_side;
 pub use held::MatchedPair;
+pub use laws::answer_laws;
 pub use texts::closed;
 
 #[cfg(test)]
