@@ -21,7 +21,7 @@ use Rattle.script_run.specs.declared.run.Run.{Run}
 use Rattle.script_run.specs.Pairs.{StandsPair, IsNew}
 use Rattle.script_run.specs.Names.{lookup}
 use Rattle.script_run.specs.declared.pairs.NamedPair.{NamedPair}
-use Rattle.script_run.specs.Run.{is_no_memory, matched_at, name_at, init_answer_of, world_answer, begun, next_pair, joined, with_request, with_world, initialised, after_init_of, after_request, after_known, known_as, call_text, after_call, report}
+use Rattle.script_run.specs.Run.{is_no_memory, matched_at, name_at, init_answer_of, world_answer, begun, next_pair, joined, with_request, with_world, initialised, after_init_of, after_request, after_known, known_as, call_text, after_call}
 use Rattle.script_run.specs.Running.{StandsFor, GoesOn}
 use Rattle.script_run.specs.State.{Known, State, slot_of, HasSlots}
 use Rattle.script_run.proofs.Slots.{slot_of-push, slot_of-matched_at, length-matched_at}
@@ -105,10 +105,6 @@ steps_on old new front text next c rest whole so_far did is = record {
   slots = call_slots so_far.here c so_far.slots;
   written = rw (is, did.0) (simp append_assoc so_far.written);
 }
-
--- the lines after a step, and at the end
-pub ends_at : (r : Run) (front whole : List ℕ) (so_far : GoesOn r front [] whole) → front ++ report so_far.here ≡ whole
-ends_at r front whole so_far = so_far.written
 
 -- a pair that was completed begins
 pub begun_stands : (old new : Run) (st : State) (m : Matched) (n : ℕ) (pair : NamedPair) (send recv : List ℕ) → StandsFor old st → n ≡ length old.pairs.items
