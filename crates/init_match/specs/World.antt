@@ -8,6 +8,7 @@ use Rattle.init_match.specs.declared.answers.WorldFault.{WorldFault}
 use Rattle.init_match.specs.declared.answers.WorldFault.TheVariants as fault
 use Rattle.init_match.specs.declared.answers.Matched.{Matched}
 use Rattle.init_match.specs.declared.keys.Side.{Side}
+use Rattle.init_match.specs.declared.keys.Side.TheVariants.{Send, Recv}
 use Rattle.init_match.specs.declared.keys.Call.{Call}
 use Rattle.init_match.specs.Calls.{total}
 use Rattle.init_match.specs.Matching.{Pair, completed_by, pairs_of}
@@ -39,6 +40,13 @@ call_of side from to tag comm parts bytes = record {
   parts = parts;
   bytes = bytes;
 }
+
+-- an initialisation of a send, and of a receive
+abbrev pub send_call : ℕ → ℕ → ℕ → ℕ → ℕ → ℕ → Call
+send_call from to tag comm parts bytes = call_of Send from to tag comm parts bytes
+
+abbrev pub recv_call : ℕ → ℕ → ℕ → ℕ → ℕ → ℕ → Call
+recv_call from to tag comm parts bytes = call_of Recv from to tag comm parts bytes
 
 -- the first fault in its numbers
 abbrev pub number_fault : ℕ → Call → Option InitFault

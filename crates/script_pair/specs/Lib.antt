@@ -1,0 +1,5 @@
+pub mod Desk
+pub mod Texts
+pub mod Answers
+pub mod Held
+pub mod Laws
