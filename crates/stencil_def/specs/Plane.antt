@@ -29,6 +29,10 @@ cell g row col = slice_index_or g.values (index g row col) (pos 0)
 abbrev pub row_of : Plane → ℕ → List ℤ
 row_of g row = take g.cols (drop (row * g.cols) g.values)
 
+-- the grid of this size with these values, row by row
+abbrev pub plane_of : ℕ → ℕ → List ℤ → Plane
+plane_of rows cols values = record { rows = rows; cols = cols; values = values }
+
 -- the grid of this size with 0 in each cell
 abbrev pub zero_plane : ℕ → ℕ → Plane
 zero_plane rows cols = record { rows = rows; cols = cols; values = replicate (rows * cols) (pos 0) }

@@ -1,8 +1,9 @@
 //! A grid of whole numbers.
 
-ghost use Rattle.std.specs.Prelude.{◌≡◌, ◌*◌, ◌<◌, ◌≤◌, IfOk};
+ghost use Rattle.std.specs.Prelude.{◌≡◌, ◌*◌, ◌<◌, ◌≤◌, IfOk, vec_len};
+ghost use Rattle.std.specs.List.{All};
 ghost use Rattle.stencil_def.specs.Limits.{IsWithin, IsValue};
-ghost use Rattle.stencil_def.specs.Plane.{IsPlane, cell, row_of, zero_plane, with_cell};
+ghost use Rattle.stencil_def.specs.Plane.{IsPlane, cell, row_of, zero_plane, with_cell, plane_of};
 
 use std::alloc::{AllocError, Global};
 use std::marker::Model;
@@ -56,6 +57,19 @@ impl Grid {
         Ok(Grid { rows, cols, values })
     }
 
+    /// The grid of this many rows and columns with these values, row by row. It takes no memory.
+    pub fn from_values(rows: u32, cols: u32, values: Vec<i64>) -> Grid
+        requires rows { IsWithin 1 4096 rows }
+        requires cols { IsWithin 1 4096 cols }
+        requires cells { rows * cols ≤ 1000000 }
+        requires length { vec_len values ≡ rows * cols }
+        requires values { All IsValue values.items }
+        ensures value { result ≡ plane_of rows cols values.items }
+        ensures limits { IsPlane result }
+    {
+        Grid { rows, cols, values }
+    }
+
     /// How many rows there are, 1 to 4,096.
     pub fn rows(&self) -> u32
         ensures value { result ≡ self.now.rows }
@@ -101,6 +115,14 @@ impl Grid {
     {
         let start = (row * self.cols) as usize;
         &self.values[start..start + self.cols as usize]
+    }
+
+    /// All values, row by row.
+    pub fn values(&self) -> &[i64]
+        ensures values { result.now ≡ self.now.values }
+        ensures limits { IsPlane self.now }
+    {
+        &self.values
     }
 
     /// The same grid in memory of its own.

@@ -1,0 +1,9 @@
+pub mod RecordsLeft
+pub mod Spaces
+pub mod NumberFacts
+pub mod ListFacts
+pub mod FaultFacts
+pub mod RowFacts
+pub mod ReadFacts
+pub mod PrintFacts
+pub mod MakeFacts

@@ -1,0 +1,59 @@
+-- What the parts of a number text say of it.
+use Rattle.std.proofs.Common.{◌≡◌, ℕ, zero, suc, ◌+◌, ◌*◌, ◌^◌, ◌<◌, ◌≤◌, Bool, true, false, ℤ, pos, neg_ℤ, ◌-ℤ◌, unsigned_abs, List, Option, Some, None, Ok, Err, refl, ap, arith, lit<, to_z, of_z, w64}
+use Rattle.std.proofs.Math.Nat.{pow-le-pow_right}
+use Rattle.std.proofs.lemmas.Bool.Decides.{nat_tests}
+use Rattle.std.proofs.lemmas.Int.{ints, to_z-of_z, fits_signed_from_abs}
+use Rattle.std.specs.Prelude.{if◌then◌else◌, nat_le}
+use Rattle.grid_text.specs.declared.number.NumberFault.TheVariants.{OutOfRange}
+use Rattle.grid_text.specs.Numbers.{sign_and_digits, signed_of, unsigned_of, with_sign, within}
+
+-- a value of few digits leaves room for one more
+pub room : (n i : ℕ) → n < 10 ^ i → i < 19 → n * 10 + 9 < 2 ^ 64
+room n i small few =
+    let most : 10 ^ i ≤ 10 ^ 18 = pow-le-pow_right (lit< tt) {j = 18} (omega arith) in
+    omega arith
+
+pub signed-found : (text digits : List ℕ) (negative : Bool) (size : ℕ) → negative ≡ (sign_and_digits text).0 → digits ≡ (sign_and_digits text).1
+    → Some size ≡ unsigned_of digits → signed_of text ≡ Some (with_sign negative size)
+unfolding signed_of
+signed-found text digits negative size a b e = rw (← a, ← b, ← e) refl
+
+pub signed-none : (text digits : List ℕ) → digits ≡ (sign_and_digits text).1 → None ≡ unsigned_of digits → signed_of text ≡ None
+unfolding signed_of
+signed-none text digits b e = rw (← b, ← e) refl
+
+pub abs-with_sign : (negative : Bool) (n : ℕ) → unsigned_abs (with_sign negative n) ≡ n
+abs-with_sign true zero = refl
+abs-with_sign true (suc n) = refl
+abs-with_sign false n = refl
+
+pub within-small : (limit n : ℕ) (negative : Bool) → n ≤ limit → within limit (Some (with_sign negative n)) ≡ Ok (with_sign negative n)
+within-small limit n negative h =
+    let t : nat_le n limit ≡ true = grind (arith, nat_tests) in
+    rw (abs-with_sign negative n, t) refl
+
+pub within-large : (limit n : ℕ) (negative : Bool) → limit < n → within limit (Some (with_sign negative n)) ≡ Err OutOfRange
+within-large limit n negative h =
+    let t : nat_le n limit ≡ false = grind (arith, nat_tests) in
+    rw (abs-with_sign negative n, t) refl
+
+pub negated : (n : ℕ) → n < 2 ^ 63 → to_z w64 (of_z w64 (pos 0 -ℤ to_z w64 n)) ≡ neg_ℤ (pos n)
+negated n h = omega (arith, ints)
+
+pub kept : (n : ℕ) → n < 2 ^ 63 → to_z w64 n ≡ pos n
+kept n h = omega (arith, ints)
+
+pub exact : (z : ℤ) → unsigned_abs z < 2 ^ 63 → to_z w64 (of_z w64 z) ≡ z
+exact z h = to_z-of_z w64 z (fits_signed_from_abs w64 z h)
+
+-- a value within a limit
+pub within-ok : (limit : ℕ) (o : Option ℤ) (z : ℤ) → Ok z ≡ within limit o → (o ≡ Some z) × (unsigned_abs z ≤ limit)
+within-ok limit None z e = cc e
+within-ok limit (Some y) z e = by (nat_le (unsigned_abs y) limit) refl e
+  where
+    by : (b : Bool) → nat_le (unsigned_abs y) limit ≡ b → Ok z ≡ (if b then Ok y else Err OutOfRange) → (Some y ≡ Some z) × (unsigned_abs z ≤ limit)
+    by true t e =
+        let same : y ≡ z = cc in
+        let low : unsigned_abs y ≤ limit = grind (arith, nat_tests) in
+        (ap Some same, rw (← same) low)
+    by false t e = cc e

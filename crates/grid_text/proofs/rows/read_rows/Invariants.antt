@@ -1,0 +1,11 @@
+use Rattle.std.proofs.Common.{◌≡◌, ◌++◌, List, ℕ, length}
+use Rattle.grid_text.specs.Reading.{AreKept}
+use Rattle.grid_text.specs.Records.{IsReading, left_of, records_of}
+use Rattle.grid_text.proofs.rows.read_rows.Given as goal
+
+abbrev pub invariant-loop-rows : goal.invariant-loop-rows
+invariant-loop-rows l =
+    IsReading l.reader × ((before : List (List (List ℕ))) × (records_of l.fn.text ≡ before ++ left_of l.reader) × AreKept l.kind before l.rows)
+
+abbrev pub decreases-loop-rows : goal.decreases-loop-rows
+decreases-loop-rows l = length (left_of l.reader)

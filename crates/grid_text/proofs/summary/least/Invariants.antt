@@ -1,0 +1,6 @@
+use Rattle.std.proofs.Common.{◌≡◌, take, pos, fold, slice_index_or}
+use Rattle.std.specs.Int.{int_min}
+use Rattle.grid_text.proofs.summary.least.Given as goal
+
+abbrev pub invariant-loop-value : goal.invariant-loop-value
+invariant-loop-value l = l.least ≡ fold int_min (slice_index_or l.values 0 (pos 0)) (take l.value-index l.values)
