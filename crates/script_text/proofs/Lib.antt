@@ -1,0 +1,5 @@
+pub mod Numbers
+pub mod Pairs
+pub mod Arguments
+pub mod LineCounts
+pub mod Faults

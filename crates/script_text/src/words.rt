@@ -1,0 +1,134 @@
+//! The words of a script: numbers, names, lists of partitions and bytes.
+
+ghost use Rattle.std.specs.Prelude.{◌≡◌, IfOk, option_map};
+ghost use Rattle.std.specs.List.{list_all};
+ghost use Rattle.script_text.specs.Lines.{texts};
+ghost use Rattle.script_text.specs.Words.{decimal_of, number_of, is_name_byte, is_name, hex_digit_of, pair_of, pairs_of, bytes_of, each_number, numbers_of};
+
+use crate::lines::split;
+use std::alloc::{AllocError, Global};
+
+/// The most digits of a number.
+const MAX_DIGITS: usize = 19;
+
+/// The most letters of a name.
+const MAX_LETTERS: usize = 16;
+
+/// The value of a word of 1 to 19 decimal digits.
+fn decimal(word: &[u8]) -> Option<u64>
+    ensures { result ≡ decimal_of word.now }
+{
+    if word.is_empty() || word.len() > MAX_DIGITS {
+        return None;
+    }
+    let mut value = 0;
+    for &byte in word {
+        if !byte.is_ascii_digit() {
+            return None;
+        }
+        value = 10 * value + u64::from(byte - b'0');
+    }
+    Some(value)
+}
+
+/// The number that a word is, if it is one.
+pub(crate) fn number(word: &[u8]) -> Option<u32>
+    ensures { result ≡ number_of word.now }
+{
+    u32::try_from(decimal(word)?).ok()
+}
+
+/// Whether a byte is a letter of a name.
+fn is_name_byte(byte: u8) -> bool
+    ensures { result ≡ is_name_byte byte }
+{
+    byte.is_ascii_alphanumeric() || byte == b'_'
+}
+
+/// Whether each byte is one of a name.
+fn has_name_bytes(word: &[u8]) -> bool
+    ensures { result ≡ list_all is_name_byte word.now }
+{
+    word.iter().all(|&byte| is_name_byte(byte))
+}
+
+/// Whether a word is a name.
+pub(crate) fn is_name(word: &[u8]) -> bool
+    ensures { result ≡ is_name word.now }
+{
+    !word.is_empty() && word.len() <= MAX_LETTERS && has_name_bytes(word)
+}
+
+/// What each of the words is, if each is a number.
+fn each_number(alloc: Global, words: &[&[u8]]) -> Result<Option<Vec<u32>>, AllocError>
+    ensures { IfOk result (λ numbers. option_map (λ v. v.items) numbers ≡ each_number (texts words.now)) }
+{
+    let mut numbers = Vec::with_capacity(alloc, words.len())?;
+    for word in words {
+        let Some(number) = number(word) else {
+            return Ok(None);
+        };
+        numbers.push(number)?;
+    }
+    Ok(Some(numbers))
+}
+
+/// The numbers of a word, which are joined by one comma each.
+pub(crate) fn numbers(alloc: Global, word: &[u8]) -> Result<Option<Vec<u32>>, AllocError>
+    ensures { IfOk result (λ numbers. option_map (λ v. v.items) numbers ≡ numbers_of word.now) }
+{
+    let words = split(alloc, word, b',')?;
+    each_number(alloc, &words)
+}
+
+/// The value of a hexadecimal digit.
+fn hex_digit(byte: u8) -> Option<u8>
+    ensures { result ≡ hex_digit_of byte }
+{
+    match byte {
+        b'0'..=b'9' => Some(byte - b'0'),
+        b'A'..=b'F' => Some(byte - b'A' + 10),
+        b'a'..=b'f' => Some(byte - b'a' + 10),
+        _ => None,
+    }
+}
+
+/// The byte of two hexadecimal digits, the high one first.
+fn pair(high: u8, low: u8) -> Option<u8>
+    ensures { result ≡ pair_of high low }
+{
+    Some(16 * hex_digit(high)? + hex_digit(low)?)
+}
+
+/// The bytes of an even number of hexadecimal digits.
+fn pairs(alloc: Global, word: &[u8]) -> Result<Option<Vec<u8>>, AllocError>
+    ensures { IfOk result (λ bytes. option_map (λ v. v.items) bytes ≡ pairs_of word.now) }
+{
+    let mut bytes = Vec::with_capacity(alloc, word.len() / 2)?;
+    let mut rest = word;
+    while let [high, low, after @ ..] = rest {
+        let Some(byte) = pair(*high, *low) else {
+            return Ok(None);
+        };
+        bytes.push(byte)?;
+        rest = after;
+    }
+    if rest.is_empty() {
+        Ok(Some(bytes))
+    } else {
+        Ok(None)
+    }
+}
+
+/// The bytes that a word stands for, if it does.
+pub(crate) fn bytes(alloc: Global, word: &[u8]) -> Result<Option<Vec<u8>>, AllocError>
+    ensures { IfOk result (λ bytes. option_map (λ v. v.items) bytes ≡ bytes_of word.now) }
+{
+    if word == b"-".as_slice() {
+        return Ok(Some(Vec::new(alloc)));
+    }
+    if word.is_empty() {
+        return Ok(None);
+    }
+    pairs(alloc, word)
+}
