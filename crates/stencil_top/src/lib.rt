@@ -3,12 +3,8 @@
 #![tactic(auto)]
 
 mod note;
-mod serial;
+mod reading;
 mod status;
 
-pub use note::{Note, line_of, tell};
-pub use serial::run_serial;
+pub use note::{Line, Note, TextName, line_of, tell};
 pub use status::Status;
-
-#[cfg(test)]
-mod tests;
