@@ -1,0 +1,2 @@
+pub mod OptionFacts
+pub mod WordFacts

@@ -1,0 +1,108 @@
+-- What the words of the command `stencil` ask for.
+use Rattle.std.specs.Prelude.{ℕ, ◌*◌, ◌==◌, Bool, ◌&&◌, nat_le, bytes_eq, codes, if◌then◌else◌, ℤ, pos, List, [], ◌∷◌, Option, Some, None, Result, Ok, Err}
+use Rattle.std.specs.List.{slice_split}
+use Rattle.stencil_def.specs.declared.rule.Around.{Around}
+use Rattle.stencil_def.specs.declared.rule.Around.TheVariants as around
+use Rattle.grid_text.specs.Numbers.{signed_of, unsigned_of, within}
+use Rattle.grid_text.specs.declared.number.NumberFault.{NumberFault}
+use Rattle.stencil_words.specs.Options.{◌>>=◌, Pair, Text, are_sound, options_of, value, when}
+use Rattle.stencil_words.specs.declared.words.Size.{Size}
+use Rattle.stencil_words.specs.declared.words.Source.{Source}
+use Rattle.stencil_words.specs.declared.words.Source.TheVariants.{Grid, Make}
+use Rattle.stencil_words.specs.declared.words.StencilWords.{StencilWords}
+
+-- low ≤ n ≤ high
+abbrev pub is_between : ℕ → ℕ → ℕ → Bool
+is_between low high n = nat_le low n && nat_le n high
+
+-- a number of 1 to 19 digits in this range
+unfoldable pub number_in : ℕ → ℕ → Text → Option ℕ
+number_in low high text = do
+  n ← unsigned_of text
+  when (is_between low high n) n
+
+abbrev pub value_of_result : Result ℤ NumberFault → Option ℤ
+value_of_result (Ok z) = Some z
+value_of_result (Err fault) = None
+
+-- a number of 1 to 19 digits, with or without a `-` before them, from -limit to limit
+unfoldable pub signed_in : ℕ → Text → Option ℤ
+signed_in limit text = value_of_result (within limit (signed_of text))
+
+-- `fixed` or `wrap`
+abbrev pub around_of : Text → Option Around
+around_of text =
+    if bytes_eq text (codes "fixed") then Some around.Fixed
+    else if bytes_eq text (codes "wrap") then Some around.Wrap
+    else None
+
+-- what the value reads as, and the default where there is none
+abbrev pub or_default : {A : Type 0} → (Text → Option A) → A → Option Text → Option A
+or_default read default None = Some default
+or_default read default (Some text) = read text
+
+-- a seed and a size, where each number is in its range
+unfoldable pub size_in : Text → Text → Text → Option Size
+size_in seed rows cols = do
+  s ← number_in 0 2147483647 seed
+  r ← number_in 1 4096 rows
+  c ← number_in 1 4096 cols
+  when (nat_le (r * c) 1000000) record { seed = s; rows = r; cols = c }
+
+abbrev pub size_of_parts : List Text → Option Size
+size_of_parts (seed ∷ rows ∷ cols ∷ []) = size_in seed rows cols
+size_of_parts _ = None
+
+-- SEED,ROWS,COLS
+abbrev pub size_of : Text → Option Size
+size_of text = size_of_parts (slice_split (λ byte. byte == 44) text)
+
+-- from a file, which goes with a file of weights
+unfoldable pub grid_source : Text → Option Text → Option Source
+grid_source grid weights = do
+  file ← weights
+  Some (Grid grid file)
+
+-- from the generator, with or without a file of weights
+unfoldable pub made_source : Text → Option Text → Option Source
+made_source make weights = do
+  size ← size_of make
+  Some (Make size weights)
+
+-- exactly one of both
+abbrev pub one_source : Option Text → Option Text → Option Text → Option Source
+one_source (Some grid) None weights = grid_source grid weights
+one_source None (Some make) weights = made_source make weights
+one_source _ _ _ = None
+
+-- where the grid comes from
+unfoldable pub source_of : List Pair → Option Source
+source_of options =
+    one_source (value (codes "grid") options) (value (codes "make") options) (value (codes "weights") options)
+
+-- what the options say beside that
+unfoldable pub with_source : List Pair → Source → Option StencilWords
+with_source options source = do
+  steps ← or_default (number_in 0 10000) 1 (value (codes "steps") options)
+  div ← or_default (number_in 1 1000000) 1 (value (codes "div") options)
+  edge ← or_default (signed_in 1000000000000) (pos 0) (value (codes "edge") options)
+  around ← or_default around_of around.Fixed (value (codes "around") options)
+  Some record { source = source; steps = steps; div = div; edge = edge; around = around }
+
+-- the reading of options, where each has a known name and no two have one
+unfoldable pub reading_of_options : List Pair → Option StencilWords
+reading_of_options options = do
+  sound ← when (are_sound options) options
+  source ← source_of sound
+  with_source sound source
+
+-- the reading of the words behind the command
+unfoldable pub reading_of : List Text → Option StencilWords
+reading_of words = do
+  options ← options_of words
+  reading_of_options options
+
+-- the reading of all words, of which the first is the command
+unfoldable pub stencil_reading : List Text → Option StencilWords
+stencil_reading [] = None
+stencil_reading (command ∷ words) = if bytes_eq command (codes "stencil") then reading_of words else None

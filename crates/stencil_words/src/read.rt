@@ -1,0 +1,207 @@
+//! The reading of the words.
+
+ghost use Rattle.std.specs.Prelude.{◌≡◌, ◌==◌, ◌≤◌, IfOk, IfSome, codes, map, option_copied, pos};
+ghost use Rattle.std.specs.List.{slice_split};
+ghost use Rattle.stencil_words.specs.Limits.{IsRead};
+ghost use Rattle.stencil_words.specs.Options.{pairs_of, texts, value};
+ghost use Rattle.stencil_words.specs.Words.{around_of, grid_source, made_source, number_in, or_default, reading_of_options, signed_in, size_in, size_of, source_of, stencil_reading, with_source};
+
+use crate::options::{Given, are_sound, options, value};
+use crate::{FileName, Size, Source, StencilWords};
+use std::alloc::{AllocError, Global};
+use stencil_def::Around;
+
+/// A number of 1 to 19 digits in this range.
+#[tactic(auto, unfolding(crate::specs::Words::number_in))]
+fn number_in(low: u32, high: u32, text: &[u8]) -> Option<u32>
+    ensures value { result ≡ number_in low high text.now }
+    ensures range { IfSome result (λ n. (low ≤ n) × (n ≤ high)) }
+{
+    let number = grid_text::unsigned(text)?;
+    if number < u64::from(low) || number > u64::from(high) {
+        return None;
+    }
+    Some(number as u32)
+}
+
+/// The number that the option of this name gives, and the default where there is none.
+fn number_or(options: &[Given<'_>], name: &str, low: u32, high: u32, default: u32) -> Option<u32>
+    ensures { result ≡ or_default (number_in low high) default (value name.now (pairs_of options.now)) }
+{
+    match value(options, name) {
+        Some(text) => number_in(low, high, text.as_bytes()),
+        None => Some(default),
+    }
+}
+
+/// The value outside the grid: that of `--edge`, and else 0.
+#[tactic(auto, unfolding(crate::specs::Words::signed_in))]
+fn edge_of(options: &[Given<'_>]) -> Option<i64>
+    ensures { result ≡ or_default (signed_in 1000000000000) (pos 0) (value (codes "edge") (pairs_of options.now)) }
+{
+    match value(options, "edge") {
+        Some(text) => grid_text::signed_within(text.as_bytes(), 1_000_000_000_000).ok(),
+        None => Some(0),
+    }
+}
+
+/// What a value of `--around` names.
+fn around_of(text: &str) -> Option<Around>
+    ensures { result ≡ around_of text.now }
+{
+    if text == "fixed" {
+        Some(Around::Fixed)
+    } else if text == "wrap" {
+        Some(Around::Wrap)
+    } else {
+        None
+    }
+}
+
+/// What lies outside the grid: what `--around` names, and else the edge.
+fn around_or(options: &[Given<'_>]) -> Option<Around>
+    ensures { result ≡ or_default around_of Around.Fixed (value (codes "around") (pairs_of options.now)) }
+{
+    match value(options, "around") {
+        Some(text) => around_of(text),
+        None => Some(Around::Fixed),
+    }
+}
+
+/// The file of a name, if there is one.
+fn file(alloc: Global, name: Option<&str>) -> Result<Option<FileName>, AllocError>
+    ensures { IfOk result (λ file. file ≡ option_copied name.entry) }
+{
+    match name {
+        Some(text) => Ok(Some(FileName::new(alloc, text)?)),
+        None => Ok(None),
+    }
+}
+
+/// The parts of a text between its commas.
+fn parts(alloc: Global, text: &str) -> Result<Vec<&[u8]>, AllocError>
+    ensures { IfOk result (λ parts. map (λ part. part.now) parts.items ≡ slice_split (λ byte. byte == 44) text.now) }
+{
+    text.as_bytes().split(|&byte| byte == b',').collect(alloc)
+}
+
+/// A generator's seed and its grid's size, where each number is in its range.
+#[tactic(auto, unfolding(crate::specs::Words::size_in))]
+fn size_in(seed: &[u8], rows: &[u8], cols: &[u8]) -> Option<Size>
+    ensures { result ≡ size_in seed.now rows.now cols.now }
+{
+    let seed = number_in(0, 2_147_483_647, seed)?;
+    let rows = number_in(1, 4096, rows)?;
+    let cols = number_in(1, 4096, cols)?;
+    if rows * cols > 1_000_000 {
+        return None;
+    }
+    Some(Size { seed, rows, cols })
+}
+
+/// The seed and the size in a value of `--make`, SEED,ROWS,COLS.
+fn size_of(alloc: Global, text: &str) -> Result<Option<Size>, AllocError>
+    ensures { IfOk result (λ size. size ≡ size_of text.now) }
+{
+    let parts = parts(alloc, text)?;
+    match parts.as_slice() {
+        [seed, rows, cols] => Ok(size_in(seed, rows, cols)),
+        _ => Ok(None),
+    }
+}
+
+/// The grid that `--grid` and `--weights` name.
+#[tactic(auto, unfolding(crate::specs::Words::grid_source))]
+fn files(alloc: Global, grid: &str, weights: Option<&str>) -> Result<Option<Source>, AllocError>
+    ensures { IfOk result (λ source. source ≡ grid_source grid.entry.now (option_copied weights.entry)) }
+{
+    let Some(weights) = weights else {
+        return Ok(None);
+    };
+    let grid = FileName::new(alloc, grid)?;
+    let weights = FileName::new(alloc, weights)?;
+    Ok(Some(Source::Grid { grid, weights }))
+}
+
+/// The grid that `--make` asks for, with the file that `--weights` names.
+#[tactic(auto, unfolding(crate::specs::Words::made_source))]
+fn made(alloc: Global, make: &str, weights: Option<&str>) -> Result<Option<Source>, AllocError>
+    ensures { IfOk result (λ source. source ≡ made_source make.entry.now (option_copied weights.entry)) }
+{
+    let Some(size) = size_of(alloc, make)? else {
+        return Ok(None);
+    };
+    let weights = file(alloc, weights)?;
+    Ok(Some(Source::Make { size, weights }))
+}
+
+/// Where the grid comes from: exactly one of `--grid` and `--make` is given.
+#[tactic(auto, unfolding(crate::specs::Words::source_of))]
+fn source(alloc: Global, options: &[Given<'_>]) -> Result<Option<Source>, AllocError>
+    ensures { IfOk result (λ source. source ≡ source_of (pairs_of options.now)) }
+{
+    let weights = value(options, "weights");
+    match (value(options, "grid"), value(options, "make")) {
+        (Some(grid), None) => files(alloc, grid, weights),
+        (None, Some(make)) => made(alloc, make, weights),
+        _ => Ok(None),
+    }
+}
+
+/// What the options say beside where the grid comes from.
+#[tactic(auto, unfolding(crate::specs::Words::with_source))]
+fn with_source(options: &[Given<'_>], source: Source) -> Option<StencilWords>
+    ensures { result ≡ with_source (pairs_of options.now) source }
+{
+    let steps = number_or(options, "steps", 0, 10_000, 1)?;
+    let div = number_or(options, "div", 1, 1_000_000, 1)?;
+    let edge = edge_of(options)?;
+    let around = around_or(options)?;
+    Some(StencilWords {
+        source,
+        steps,
+        div,
+        edge,
+        around,
+    })
+}
+
+/// The reading of options.
+#[tactic(auto, unfolding(crate::specs::Words::reading_of_options))]
+fn read_options(alloc: Global, options: &[Given<'_>]) -> Result<Option<StencilWords>, AllocError>
+    ensures { IfOk result (λ reading. reading ≡ reading_of_options (pairs_of options.now)) }
+{
+    if !are_sound(options) {
+        return Ok(None);
+    }
+    let Some(source) = source(alloc, options)? else {
+        return Ok(None);
+    };
+    Ok(with_source(options, source))
+}
+
+/// The reading of the words of a command line, of which the first is the command; there is none where the command
+/// isn't `stencil`, or a word or a value breaks a rule below.
+///
+/// Behind the command stand options, each once at most and in any order. An option is one word `--NAME=VALUE`, whose
+/// first `=` divides it, with a value that isn't empty; or two words `--NAME VALUE`, with a value that isn't empty and
+/// doesn't begin with `-`. Numbers are 1 to 19 decimal digits, with a `-` before them only for `edge`.
+///
+/// `grid` and `weights` name files. `make` is SEED,ROWS,COLS, with no spaces. Exactly one of `grid` and `make` is given,
+/// and `weights` with `grid`. `steps` is 0 to 10,000, and without it 1; `div` is 1 to 1,000,000, and without it 1; `edge`
+/// is -10^12 to 10^12, and without it 0; `around` is `fixed` or `wrap`, and without it `fixed`.
+pub fn read_words(alloc: Global, words: &[String]) -> Result<Option<StencilWords>, AllocError>
+    ensures reading { IfOk result (λ reading. reading ≡ stencil_reading (texts words.now)) }
+    ensures limits { IfOk result (λ reading. IfSome reading IsRead) }
+{
+    let Some((command, rest)) = words.split_first() else {
+        return Ok(None);
+    };
+    if command.as_str() != "stencil" {
+        return Ok(None);
+    }
+    let Some(options) = options(alloc, rest)? else {
+        return Ok(None);
+    };
+    read_options(alloc, &options)
+}

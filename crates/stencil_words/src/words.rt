@@ -1,0 +1,49 @@
+//! What the words ask for.
+
+use crate::FileName;
+use stencil_def::Around;
+
+/// What the generator makes a grid of.
+#[derive(Clone, Copy, Debug, PartialEq, Eq)]
+pub struct Size {
+    /// The first number of the generator, from 0 to 2,147,483,647.
+    pub seed: u32,
+    /// How many rows the grid has, from 1 to 4,096.
+    pub rows: u32,
+    /// How many columns the grid has, from 1 to 4,096; it has at most 1,000,000 cells.
+    pub cols: u32,
+}
+
+/// Where the grid comes from.
+#[derive(Debug, Drop)]
+pub enum Source {
+    /// From a file, with the file of the weights.
+    Grid {
+        /// The file of the grid.
+        grid: FileName,
+        /// The file of the weights.
+        weights: FileName,
+    },
+    /// From the generator.
+    Make {
+        /// What the generator makes it of.
+        size: Size,
+        /// The file of the weights. Without one the weights are 1, 2, 1 and 2, 4, 2 and 1, 2, 1, row by row.
+        weights: Option<FileName>,
+    },
+}
+
+/// What the words of `stencil` ask for.
+#[derive(Debug, Drop)]
+pub struct StencilWords {
+    /// Where the grid comes from.
+    pub source: Source,
+    /// How many steps there are, from 0 to 10,000.
+    pub steps: u32,
+    /// What a weighted sum is divided by, from 1 to 1,000,000.
+    pub div: u32,
+    /// The value outside the grid, from -10^12 to 10^12.
+    pub edge: i64,
+    /// What lies outside the grid.
+    pub around: Around,
+}
