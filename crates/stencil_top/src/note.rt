@@ -1,6 +1,6 @@
 //! What a run notes where it ends without its output.
 
-ghost use Rattle.std.specs.Prelude.{◌≡◌, ◌≤◌, ◌+◌, ◌++◌, length, codes, decimal};
+ghost use Rattle.std.specs.Prelude.{◌≡◌, ◌<◌, ◌≤◌, ◌+◌, ◌++◌, length, codes, decimal};
 ghost use Rattle.stencil_top.specs.Note.{status_of, name_of, at_row, at_column, at_line, text_message, script_message, message_of, note_text, Notes};
 
 use crate::status::Status;
