@@ -8,9 +8,9 @@ use Rattle.grid_text.specs.Reading.{grid_of, weights_of}
 use Rattle.grid_text.specs.Printing.{grid_text, summary_text}
 use Rattle.grid_text.specs.Making.{made_grid}
 use Rattle.grid_text.specs.declared.fault.TextFault.{TextFault}
-use Rattle.script_text.specs.Script.{Contents, script_of}
-use Rattle.script_text.specs.declared.fault.ScriptFault.{ScriptFault}
+use Rattle.script_run.specs.Built.{script_of}
 use Rattle.script_run.specs.Run.{answers_of}
+use Rattle.stencil_words.specs.declared.words.Size.{Size}
 use Rattle.stencil_words.specs.declared.words.StencilWords.{StencilWords}
 use Rattle.stencil_words.specs.declared.words.Source.{Source}
 use Rattle.stencil_words.specs.declared.words.Source.TheVariants.{Grid, Make}
@@ -21,7 +21,8 @@ use Rattle.stencil_top.specs.declared.status.Status.TheVariants.{Done}
 use Rattle.stencil_top.specs.declared.note.TextName.{TextName}
 use Rattle.stencil_top.specs.declared.note.TextName.TheVariants as text
 use Rattle.stencil_top.specs.declared.note.Note.{Note}
-use Rattle.stencil_top.specs.declared.note.Note.TheVariants.{Usage, TooLong, BadScript, BadText, CannotRead}
+use Rattle.stencil_top.specs.declared.note.Note.TheVariants.{Usage, TooLong, NotBuilt, BadText, CannotRead}
+use Rattle.stencil_top.specs.declared.reading.Inputs.{Inputs}
 
 -- the text of each name, where there is one
 abbrev pub Texts : Type 0
@@ -44,44 +45,56 @@ abbrev pub read_of : TextName → Option (List ℕ) → Result (List ℕ) Note
 read_of which None = Err (CannotRead which)
 read_of which (Some text) = if nat_lt (limit_of which) (length text) then Err (TooLong which) else Ok text
 
--- what a text of weights, of a grid and of a script reads as
+-- what a text of weights or of a grid, and what a script reads as
 abbrev pub or_bad_text : {A : Type 0} → TextName → Result A TextFault → Result A Note
 or_bad_text which (Ok x) = Ok x
 or_bad_text which (Err fault) = Err (BadText which fault)
 
-abbrev pub or_bad_script : Result Contents ScriptFault → Result Contents Note
-or_bad_script (Ok contents) = Ok contents
-or_bad_script (Err fault) = Err (BadScript fault)
+abbrev pub or_not_built : {A : Type 0} → Option A → Result A Note
+or_not_built (Some x) = Ok x
+or_not_built None = Err NotBuilt
 
--- the answers to a script
+-- the answers to the script that a text is
+abbrev pub answers_to : List ℕ → Result (List ℕ) Note
+answers_to text = do
+  script ← or_not_built (script_of text)
+  Ok (answers_of script)
+
 abbrev pub script_output : Texts → Result (List ℕ) Note
 script_output files = do
   text ← read_of text.Script (files text.Script)
-  contents ← or_bad_script (script_of text)
-  Ok (answers_of contents)
+  answers_to text
 
 -- the weights where no file names others: 1, 2, 1 and 2, 4, 2 and 1, 2, 1, row by row
 abbrev pub default_weights : Square
 default_weights = square_of (pos 1 ∷ pos 2 ∷ pos 1 ∷ pos 2 ∷ pos 4 ∷ pos 2 ∷ pos 1 ∷ pos 2 ∷ pos 1 ∷ [])
 
--- what a stencil begins with
-pub record Inputs : Type 0 where
-  pub grid : Plane
-  pub weights : Square
+-- the grid that the generator makes
+abbrev pub made_of : Size → Plane
+made_of size = made_grid size.seed size.rows size.cols
 
--- both files are read before either text: the weights, and then the grid
+-- what a stencil begins with, by its texts: of two the weights are looked at first
+abbrev pub inputs_in : List ℕ → List ℕ → Result Inputs Note
+inputs_in weights grid = do
+  square ← or_bad_text text.Weights (weights_of weights)
+  plane ← or_bad_text text.Grid (grid_of grid)
+  Ok record { grid = plane; weights = square }
+
+abbrev pub made_with : Size → List ℕ → Result Inputs Note
+made_with size weights = do
+  square ← or_bad_text text.Weights (weights_of weights)
+  Ok record { grid = made_of size; weights = square }
+
+-- what a stencil begins with: both files are read before either text is looked at, the weights and then the grid
 abbrev pub inputs_of : Source → Texts → Result Inputs Note
 inputs_of (Grid grid weights) files = do
   weights_text ← read_of text.Weights (files text.Weights)
   grid_text ← read_of text.Grid (files text.Grid)
-  square ← or_bad_text text.Weights (weights_of weights_text)
-  plane ← or_bad_text text.Grid (grid_of grid_text)
-  Ok record { grid = plane; weights = square }
+  inputs_in weights_text grid_text
 inputs_of (Make size (Some weights)) files = do
   weights_text ← read_of text.Weights (files text.Weights)
-  square ← or_bad_text text.Weights (weights_of weights_text)
-  Ok record { grid = made_grid size.seed size.rows size.cols; weights = square }
-inputs_of (Make size None) files = Ok record { grid = made_grid size.seed size.rows size.cols; weights = default_weights }
+  made_with size weights_text
+inputs_of (Make size None) files = Ok record { grid = made_of size; weights = default_weights }
 
 -- the rule that the words give with these weights
 pub record IsRuleOf (w : StencilWords) (weights : Square) (rule : Rule) : Type 0 where
@@ -95,10 +108,11 @@ abbrev pub printed : Source → ℕ → Plane → List ℕ
 printed (Grid grid weights) steps last = grid_text last
 printed (Make size weights) steps last = summary_text last steps
 
--- the output of a stencil: the grid after the last step
-abbrev pub IsStencilOutput : StencilWords → Inputs → List ℕ → Type 0
-IsStencilOutput w inputs output =
-    (rule : Rule) → IsRuleOf w inputs.weights rule → output ≡ printed w.source w.steps (fold_plane inputs.grid rule w.steps)
+-- the output of a stencil: the grid after the last step of that rule
+pub record IsStencilOutput (w : StencilWords) (inputs : Inputs) (output : List ℕ) : Type 0 where
+  pub rule : Rule
+  pub rule_is : IsRuleOf w inputs.weights rule
+  pub output_is : output ≡ printed w.source w.steps (fold_plane inputs.grid rule w.steps)
 
 -- the status of a run, what it writes to the output, and what it notes
 pub record Outcome : Type 0 where
@@ -125,6 +139,6 @@ Ends None files end = end ≡ noted Usage
 Ends (Some (Script name)) files end = EndsWith (script_output files) (λ answers output. output ≡ answers) end
 Ends (Some (Stencil w)) files end = EndsWith (inputs_of w.source files) (IsStencilOutput w) end
 
--- the texts that a command finds in files
-abbrev pub texts_in : Option Command → (List ℕ → Option (List ℕ)) → Texts
-texts_in command held which = option_and_then held (file_of command which)
+-- the texts in the files of these names
+abbrev pub texts_in : Texts → (List ℕ → Option (List ℕ)) → Texts
+texts_in names held which = option_and_then held (names which)

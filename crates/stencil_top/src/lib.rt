@@ -4,7 +4,11 @@
 
 mod note;
 mod reading;
+mod serial;
 mod status;
+mod stencil;
+mod words;
 
 pub use note::{Line, Note, TextName, line_of, tell};
+pub use serial::run_serial;
 pub use status::Status;

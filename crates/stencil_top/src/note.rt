@@ -37,6 +37,9 @@ pub enum Note {
     /// The file is longer than such a text may be.
     #[error("the text is too long")]
     TooLong(TextName),
+    /// The script has a form that isn't built yet.
+    #[error("the script is not built yet")]
+    NotBuilt,
     /// The script's text is refused.
     #[error("the script is refused")]
     BadScript(ScriptFault),
@@ -64,7 +67,9 @@ impl Note {
             Note::BadScript(ScriptFault::NoMemory)
             | Note::BadText(_, TextFault::NoMemory)
             | Note::OutOfMemory => Status::NoMemory,
-            Note::TooLong(_) | Note::BadScript(_) | Note::BadText(_, _) => Status::Refused,
+            Note::TooLong(_) | Note::NotBuilt | Note::BadScript(_) | Note::BadText(_, _) => {
+                Status::Refused
+            }
             Note::CannotRead(_) => Status::ReadFault,
             Note::CannotWrite => Status::WriteFault,
         }
@@ -97,7 +102,8 @@ fn push_number(line: &mut Line, n: u32)
 fn push_row(line: &mut Line, row: u32, words: &str)
     requires room { length line.old.bytes ≤ 40 }
     requires short { length words.now ≤ 20 }
-    ensures { line.new.bytes ≡ line.old.bytes ++ at_row row words.now }
+    ensures words { line.new.bytes ≡ line.old.bytes ++ at_row row words.now }
+    ensures short { length line.new.bytes ≤ 100 }
 {
     line.push_str(" row ");
     push_number(line, row);
@@ -108,7 +114,8 @@ fn push_row(line: &mut Line, row: u32, words: &str)
 fn push_column(line: &mut Line, row: u32, col: u32, words: &str)
     requires room { length line.old.bytes ≤ 40 }
     requires short { length words.now ≤ 20 }
-    ensures { line.new.bytes ≡ line.old.bytes ++ at_column row col words.now }
+    ensures words { line.new.bytes ≡ line.old.bytes ++ at_column row col words.now }
+    ensures short { length line.new.bytes ≤ 100 }
 {
     line.push_str(" row ");
     push_number(line, row);
@@ -201,6 +208,7 @@ fn message(note: Note) -> Line
     match note {
         Note::Usage => plain_line("usage: partstencil stencil OPTIONS | partstencil script FILE"),
         Note::TooLong(text) => file_line("partstencil: ", text, ": too long"),
+        Note::NotBuilt => plain_line("partstencil: script: not built yet"),
         Note::BadScript(fault) => script_line(fault),
         Note::BadText(text, fault) => text_line(text, fault),
         Note::CannotRead(text) => file_line("partstencil: cannot read ", text, ""),

@@ -1,0 +1,125 @@
+-- A run whose files are told ends with the outcome that its command has with them, where nothing failed.
+use Rattle.std.proofs.Common.{◌≡◌, ◌≢◌, ◌⊎◌, inl, inr, ℕ, List, [], Option, Some, None, Result, Ok, Err, IfSome, refl, sym, ap, ◌∙◌, subst}
+use Rattle.std.proofs.lemmas.List.{append-nil}
+use Rattle.part_io.specs.Causes.{Rose}
+use Rattle.part_io.specs.Sink.{Adds}
+use Rattle.grid_text.specs.declared.fault.TextFault.TheVariants as text_fault
+use Rattle.script_text.specs.declared.fault.ScriptFault.TheVariants as script_fault
+use Rattle.stencil_top.specs.Words.{Command, Script, Stencil, file_of}
+use Rattle.stencil_top.specs.Note.{status_of, note_text, Notes}
+use Rattle.stencil_top.specs.Outcome.{Outcome, Ends, EndsWith, IsStencilOutput, answered, noted, texts_in, inputs_of, script_output}
+use Rattle.stencil_top.specs.Run.{Files, Explains, IsNoted, IsCause, IsOutcome, EndsAsTold}
+use Rattle.stencil_top.specs.declared.note.Note.{Note}
+use Rattle.stencil_top.specs.declared.note.Note.TheVariants.{Usage, TooLong, NotBuilt, BadScript, BadText, CannotRead, CannotWrite, OutOfMemory}
+use Rattle.stencil_top.specs.declared.status.Status.{Status}
+use Rattle.stencil_top.specs.declared.status.Status.TheVariants.{Done, NoMemory, WriteFault}
+use Rattle.stencil_top.proofs.Texts.{not_true}
+use Rattle.stencil_top.proofs.Ends.{same_ends}
+
+-- what is as it was has nothing more
+pub adds_none : (old new : Option (List ℕ)) → new ≡ old → Adds old new []
+adds_none None new same = same
+adds_none (Some bytes) new same = same ∙ ap Some (sym (append-nil bytes))
+
+-- the outcome with the texts in the files
+pub explained : (command : Option Command) (held : List ℕ → Option (List ℕ)) (Says : Outcome → Type 0) → Explains command (Some held) Says
+    → (end : Outcome) × Ends command (texts_in (file_of command) held) end × Says end
+explained command held Says x = (x.end, same_ends command x.texts (texts_in (file_of command) held) x.end x.found x.ends, x.says)
+
+-- no note ends with the output written
+never_done : (cause : Note) → status_of cause ≢ Done
+never_done Usage is = cc
+never_done (TooLong w) is = cc
+never_done NotBuilt is = cc
+never_done (BadScript script_fault.NoMemory) is = cc
+never_done (BadScript _) is = cc
+never_done (BadText w text_fault.NoMemory) is = cc
+never_done (BadText w _) is = cc
+never_done (CannotRead w) is = cc
+never_done CannotWrite is = cc
+never_done OutOfMemory is = cc
+
+-- with the output written nothing is noted
+quiet_with : {A : Type 0} (r : Result A Note) (IsOutput : A → List ℕ → Type 0) (end : Outcome) → EndsWith r IsOutput end → end.status ≡ Done → end.note ≡ []
+quiet_with (Ok x) IsOutput end ends done = ap (λ (o : Outcome). o.note) ends.2
+quiet_with (Err cause) IsOutput end ends done = absurd (never_done cause (ap (λ (o : Outcome). o.status) (sym ends) ∙ done))
+
+quiet : (command : Option Command) (t : _) (end : Outcome) → Ends command t end → end.status ≡ Done → end.note ≡ []
+quiet None t end ends done = absurd (never_done Usage (ap (λ (o : Outcome). o.status) (sym ends) ∙ done))
+quiet (Some (Script name)) t end ends done = quiet_with (script_output t) _ end ends done
+quiet (Some (Stencil w)) t end ends done = quiet_with (inputs_of w.source t) (IsStencilOutput w) end ends done
+
+-- an output that was written
+pub told_output : (files : Files) (command : Option Command) (ReadFailed WriteFailed : Type 0) (out out' line : Option (List ℕ)) (count : ℕ)
+    → Explains command files (λ end. (end.status ≡ Done) × Adds out out' end.output)
+    → IfSome files (λ held. ¬ ReadFailed → ¬ WriteFailed → (Done ≡ NoMemory) ⊎ EndsAsTold command held Done out out' line line count count)
+told_output None command R W out out' line count x = tt
+told_output (Some held) command R W out out' line count x = λ no_read no_write.
+    let e = explained command held (λ end. (end.status ≡ Done) × Adds out out' end.output) x in
+    inr record {
+      end = e.0;
+      ends = e.1;
+      is = record {
+        status_is = sym e.2.0;
+        output = e.2.1;
+        noted = λ calm. subst (λ (n : List ℕ). Adds line line n) (sym (quiet command (texts_in (file_of command) held) e.0 e.1 e.2.0)) (adds_none line line refl);
+      };
+    }
+
+-- the outcome that is noted
+noted_as_told : (command : Option Command) (held : List ℕ → Option (List ℕ)) (cause : Note) (status : Status) (out out' line line' : Option (List ℕ)) (before now : ℕ)
+    → status ≡ status_of cause → out' ≡ out → Notes line line' before now (note_text cause)
+    → IsNoted cause command (Some held) → EndsAsTold command held status out out' line line' before now
+noted_as_told command held cause status out out' line line' before now status_is same notes x =
+    let e = explained command held (λ end. end ≡ noted cause) x in
+    record {
+      end = e.0;
+      ends = e.1;
+      is = record {
+        status_is = status_is ∙ ap (λ (o : Outcome). o.status) (sym e.2);
+        output = subst (λ (o : Outcome). Adds out out' o.output) (sym e.2) (adds_none out out' same);
+        noted = λ calm. subst (λ (o : Outcome). Adds line line' o.note) (sym e.2) (notes.whole calm);
+      };
+    }
+
+-- words that ask for nothing
+no_command : (command : Option Command) (held : List ℕ → Option (List ℕ)) → command ≡ None → IsNoted Usage command (Some held)
+no_command command held is =
+    subst (λ (c : Option Command). IsNoted Usage c (Some held)) (sym is) record {
+      texts = λ which. None;
+      end = noted Usage;
+      found = λ which needed. absurd (not_true needed);
+      ends = refl;
+      says = refl;
+    }
+
+-- a cause that was noted
+told_cause : (command : Option Command) (held : List ℕ → Option (List ℕ)) (WriteFailed : Type 0) (cause : Note) (status : Status)
+    (out out' line line' : Option (List ℕ)) (before now before' now' : ℕ)
+    → status ≡ status_of cause → IsCause cause command (Some held) before' now' → (cause ≡ CannotWrite → WriteFailed)
+    → (cause ≢ CannotWrite → out' ≡ out) → Notes line line' before now (note_text cause) → ¬ Rose before' now' → ¬ WriteFailed
+    → (status ≡ NoMemory) ⊎ EndsAsTold command held status out out' line line' before now
+told_cause command held W Usage status out out' line line' b n b' n' status_is is write nothing notes no_read no_write =
+    inr (noted_as_told command held Usage status out out' line line' b n status_is (nothing (λ w. no_write (write w))) notes (no_command command held is))
+told_cause command held W (TooLong w) status out out' line line' b n b' n' status_is is write nothing notes no_read no_write =
+    inr (noted_as_told command held (TooLong w) status out out' line line' b n status_is (nothing (λ w. no_write (write w))) notes is)
+told_cause command held W NotBuilt status out out' line line' b n b' n' status_is is write nothing notes no_read no_write =
+    inr (noted_as_told command held NotBuilt status out out' line line' b n status_is (nothing (λ w. no_write (write w))) notes is)
+told_cause command held W (BadScript fault) status out out' line line' b n b' n' status_is is write nothing notes no_read no_write =
+    inr (noted_as_told command held (BadScript fault) status out out' line line' b n status_is (nothing (λ w. no_write (write w))) notes is)
+told_cause command held W (BadText w fault) status out out' line line' b n b' n' status_is is write nothing notes no_read no_write =
+    inr (noted_as_told command held (BadText w fault) status out out' line line' b n status_is (nothing (λ w. no_write (write w))) notes is)
+told_cause command held W (CannotRead w) status out out' line line' b n b' n' status_is is write nothing notes no_read no_write =
+    inr (noted_as_told command held (CannotRead w) status out out' line line' b n status_is (nothing (λ w. no_write (write w))) notes (is.1 no_read))
+told_cause command held W CannotWrite status out out' line line' b n b' n' status_is is write nothing notes no_read no_write = absurd (no_write (write refl))
+told_cause command held W OutOfMemory status out out' line line' b n b' n' status_is is write nothing notes no_read no_write = inl status_is
+
+pub told : (files : Files) (command : Option Command) (WriteFailed : Type 0) (cause : Note) (status : Status)
+    (out out' line line' : Option (List ℕ)) (before now before' now' : ℕ)
+    → status ≡ status_of cause → IsCause cause command files before' now' → (cause ≡ CannotWrite → WriteFailed)
+    → (cause ≢ CannotWrite → out' ≡ out) → Notes line line' before now (note_text cause)
+    → IfSome files (λ held. ¬ Rose before' now' → ¬ WriteFailed
+    → (status ≡ NoMemory) ⊎ EndsAsTold command held status out out' line line' before now)
+told None command W cause status out out' line line' b n b' n' status_is is write nothing notes = tt
+told (Some held) command W cause status out out' line line' b n b' n' status_is is write nothing notes = λ no_read no_write.
+    told_cause command held W cause status out out' line line' b n b' n' status_is is write nothing notes no_read no_write
