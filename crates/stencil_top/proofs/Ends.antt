@@ -1,17 +1,16 @@
 -- The output of a script, and the outcomes of a command.
-use Rattle.std.proofs.Common.{◌≡◌, ℕ, ◌<◌, ◌≤◌, List, length, Option, Some, None, Result, Ok, Err, Vec, IfSome, IsSome, IsSomeAnd, refl, sym, ap, ◌∙◌, subst}
+use Rattle.std.proofs.Common.{◌≡◌, ℕ, ◌≤◌, List, length, Option, Some, None, Result, Ok, Err, Vec, IfSome, IsSome, refl, sym, ap, ◌∙◌, subst}
 use Rattle.std.specs.declared.alloc.Global.{Global}
-use Rattle.part_io.specs.Causes.{Rose}
 use Rattle.stencil_words.specs.declared.words.Source.{Source}
 use Rattle.stencil_words.specs.declared.words.Source.TheVariants as source
 use Rattle.stencil_top.specs.Words.{Command, Script, Stencil, source_file, file_of}
 use Rattle.stencil_top.specs.Outcome.{Texts, Outcome, Ends, EndsWith, IsStencilOutput, answered, noted, texts_in, limit_of, read_of, ◌>>=◌, answers_to, script_output, inputs_in, inputs_of, made_with}
-use Rattle.stencil_top.specs.Run.{Files, AreIn, Explains, IsNoted, Gives, ReadsFile, Makes, RunsScript, Comes, Finds}
+use Rattle.stencil_top.specs.Run.{Files, AreIn, IsNoted, Gives, ReadsFile, RunsScript, Finds}
 use Rattle.stencil_top.specs.declared.note.TextName.{TextName}
 use Rattle.stencil_top.specs.declared.note.TextName.TheVariants as text
 use Rattle.stencil_top.specs.declared.note.Note.{Note}
 use Rattle.stencil_top.specs.declared.note.Note.TheVariants.{Usage, TooLong, NotBuilt, BadScript, BadText, CannotRead, CannotWrite, OutOfMemory}
-use Rattle.stencil_top.proofs.Texts.{not_true, texts_of, told_text, told_is, is_found, read_short, fails, made_comes}
+use Rattle.stencil_top.proofs.Texts.{not_true, texts_of, is_found, read_short, fails, made_comes}
 
 -- the note of a cause, where what was wanted came to that cause
 is_noted : {A : Type 0} (command : Option Command) (files : Files) (before now : ℕ) (wanted : Texts → Result A Note) (IsOutput : A → List ℕ → Type 0) (result : Result A Note)
@@ -61,8 +60,8 @@ script_fails files name before now cause reads = none_given {A = List ℕ} (Some
   texts = texts_of None None reads.found;
   found = are_in_script files name reads.found reads.held;
   comes = fails (file_of (Some (Script name))) files before now text.Script name reads.found cause
-  (script_output (texts_of None None reads.found)) refl reads.held
-  (λ c e. ap (λ (r : Result (List ℕ) Note). r >>= (λ t. answers_to t)) e) reads.finds;
+      (script_output (texts_of None None reads.found)) refl reads.held
+      (λ c e. ap (λ (r : Result (List ℕ) Note). r >>= (λ t. answers_to t)) e) reads.finds;
 }
 
 -- the answers to a script that was read
@@ -77,16 +76,16 @@ script_given files name before now s s' (Ok answers) reads is runs = record {
   end = answered answers.items;
   found = are_in_script files name (Some s.items) (is_found files name reads.found (Some s.items) reads.finds.0 reads.held);
   ends = subst (λ (r : Result (List ℕ) Note). EndsWith r IsAnswer (answered answers.items)) (sym (answers_are s.items s' reads.finds.1 is ∙ runs))
-  (answers.items, refl, refl);
+      (answers.items, refl, refl);
   says = refl;
 }
 script_given files name before now s s' (Err cause) reads is runs =
     none_given {A = List ℕ} (Some (Script name)) files before now script_output IsAnswer (λ t e ends. ends) cause record {
-  texts = texts_of None None (Some s.items);
-  found = are_in_script files name (Some s.items) (is_found files name reads.found (Some s.items) reads.finds.0 reads.held);
-  comes = made_comes (file_of (Some (Script name))) files before now (script_output (texts_of None None (Some s.items))) (answers_to s') (Err cause)
-  (answers_are s.items s' reads.finds.1 is) runs;
-}
+      texts = texts_of None None (Some s.items);
+      found = are_in_script files name (Some s.items) (is_found files name reads.found (Some s.items) reads.finds.0 reads.held);
+      comes = made_comes (file_of (Some (Script name))) files before now (script_output (texts_of None None (Some s.items))) (answers_to s') (Err cause)
+          (answers_are s.items s' reads.finds.1 is) runs;
+    }
 
 -- what a stencil begins with goes by the texts that it needs
 inputs_same : (s : Source) (t t' : Texts) → ((which : TextName) → IsSome (source_file s which) → t which ≡ t' which) → inputs_of s t ≡ inputs_of s t'

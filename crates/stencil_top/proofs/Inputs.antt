@@ -1,11 +1,11 @@
 -- What a stencil begins with, by the reading of its files.
-use Rattle.std.proofs.Common.{◌≡◌, ℕ, ◌<◌, ◌≤◌, List, length, Option, Some, None, Result, Ok, Err, Vec, IfSome, IsSome, IsSomeAnd, refl, sym, ap, ◌∙◌, subst}
+use Rattle.std.proofs.Common.{◌≡◌, ℕ, ◌≤◌, List, length, Option, Some, None, Result, Ok, Err, Vec, IfSome, IsSome, refl, sym, ap, ◌∙◌, subst}
 use Rattle.std.specs.declared.alloc.Global.{Global}
 use Rattle.stencil_words.specs.declared.words.Size.{Size}
 use Rattle.stencil_words.specs.declared.words.Source.{Source}
 use Rattle.stencil_words.specs.declared.words.Source.TheVariants as source
 use Rattle.stencil_top.specs.Words.{source_file}
-use Rattle.stencil_top.specs.Outcome.{Texts, texts_in, limit_of, read_of, ◌>>=◌, inputs_in, inputs_of, made_with}
+use Rattle.stencil_top.specs.Outcome.{texts_in, limit_of, read_of, ◌>>=◌, inputs_in, inputs_of, made_with}
 use Rattle.stencil_top.specs.Run.{Files, AreIn, ReadsFile, Makes, Finds}
 use Rattle.stencil_top.specs.declared.note.TextName.{TextName}
 use Rattle.stencil_top.specs.declared.note.TextName.TheVariants as text
@@ -65,8 +65,8 @@ weights_fail files grid weights before now cause reads = record {
   texts = texts_of reads.found (told_text files grid) None;
   found = are_in_both files grid weights reads.found (told_text files grid) None reads.held (told_is files grid);
   comes = fails (source_file (source.Grid grid weights)) files before now text.Weights weights reads.found cause
-  (inputs_of (source.Grid grid weights) (texts_of reads.found (told_text files grid) None)) refl reads.held
-  (λ c e. ap (λ (r : Result (List ℕ) Note). r >>= (λ w. read_of text.Grid (told_text files grid) >>= (λ g. inputs_in w g))) e) reads.finds;
+      (inputs_of (source.Grid grid weights) (texts_of reads.found (told_text files grid) None)) refl reads.held
+      (λ c e. ap (λ (r : Result (List ℕ) Note). r >>= (λ w. read_of text.Grid (told_text files grid) >>= (λ g. inputs_in w g))) e) reads.finds;
 }
 
 -- the weights of two texts
@@ -82,8 +82,8 @@ grid_fails files grid weights before middle now w cause first second = record {
   texts = texts_of (Some w.items) second.found None;
   found = are_in_both files grid weights (Some w.items) second.found None (is_found files weights first.found (Some w.items) first.finds.0 first.held) second.held;
   comes = fails (source_file (source.Grid grid weights)) files before now text.Grid grid second.found cause
-  (inputs_of (source.Grid grid weights) (texts_of (Some w.items) second.found None)) refl second.held
-  (λ c e. with_weights w.items second.found grid weights first.finds.1 ∙ ap (λ (r : Result (List ℕ) Note). r >>= (λ t. inputs_in w.items t)) e) second.finds;
+      (inputs_of (source.Grid grid weights) (texts_of (Some w.items) second.found None)) refl second.held
+      (λ c e. with_weights w.items second.found grid weights first.finds.1 ∙ ap (λ (r : Result (List ℕ) Note). r >>= (λ t. inputs_in w.items t)) e) second.finds;
 }
 
 -- both files were read
@@ -94,12 +94,12 @@ pub both_read : (files : Files) (grid weights : List ℕ) (before middle now : �
 both_read files grid weights before middle now w g w' g' result first second is_w is_g makes = record {
   texts = texts_of (Some w.items) (Some g.items) None;
   found = are_in_both files grid weights (Some w.items) (Some g.items) None (is_found files weights first.found (Some w.items) first.finds.0 first.held)
-  (is_found files grid second.found (Some g.items) second.finds.0 second.held);
+      (is_found files grid second.found (Some g.items) second.finds.0 second.held);
   comes = made_comes (source_file (source.Grid grid weights)) files before now
-  (inputs_of (source.Grid grid weights) (texts_of (Some w.items) (Some g.items) None)) (inputs_in w' g') result
-  (with_weights w.items (Some g.items) grid weights first.finds.1
-  ∙ ap (λ (r : Result (List ℕ) Note). r >>= (λ t. inputs_in w.items t)) (read_short text.Grid g.items second.finds.1)
-  ∙ ap (λ (v : List ℕ). inputs_in v g.items) (sym is_w) ∙ ap (λ (t : List ℕ). inputs_in w' t) (sym is_g)) makes;
+      (inputs_of (source.Grid grid weights) (texts_of (Some w.items) (Some g.items) None)) (inputs_in w' g') result
+      (with_weights w.items (Some g.items) grid weights first.finds.1
+      ∙ ap (λ (r : Result (List ℕ) Note). r >>= (λ t. inputs_in w.items t)) (read_short text.Grid g.items second.finds.1)
+      ∙ ap (λ (v : List ℕ). inputs_in v g.items) (sym is_w) ∙ ap (λ (t : List ℕ). inputs_in w' t) (sym is_g)) makes;
 }
 
 -- the weights of a made grid were not read
@@ -110,8 +110,8 @@ one_fails files size weights before now cause reads = record {
   texts = texts_of reads.found None None;
   found = are_in_one files size weights reads.found None None reads.held;
   comes = fails (source_file (source.Make size (Some weights))) files before now text.Weights weights reads.found cause
-  (inputs_of (source.Make size (Some weights)) (texts_of reads.found None None)) refl reads.held
-  (λ c e. ap (λ (r : Result (List ℕ) Note). r >>= (λ w. made_with size w)) e) reads.finds;
+      (inputs_of (source.Make size (Some weights)) (texts_of reads.found None None)) refl reads.held
+      (λ c e. ap (λ (r : Result (List ℕ) Note). r >>= (λ w. made_with size w)) e) reads.finds;
 }
 
 -- they were read
@@ -122,9 +122,9 @@ one_read files size weights before now w w' result reads is_w makes = record {
   texts = texts_of (Some w.items) None None;
   found = are_in_one files size weights (Some w.items) None None (is_found files weights reads.found (Some w.items) reads.finds.0 reads.held);
   comes = made_comes (source_file (source.Make size (Some weights))) files before now
-  (inputs_of (source.Make size (Some weights)) (texts_of (Some w.items) None None)) (made_with size w') result
-  (ap (λ (r : Result (List ℕ) Note). r >>= (λ v. made_with size v)) (read_short text.Weights w.items reads.finds.1)
-  ∙ ap (λ (v : List ℕ). made_with size v) (sym is_w)) makes;
+      (inputs_of (source.Make size (Some weights)) (texts_of (Some w.items) None None)) (made_with size w') result
+      (ap (λ (r : Result (List ℕ) Note). r >>= (λ v. made_with size v)) (read_short text.Weights w.items reads.finds.1)
+      ∙ ap (λ (v : List ℕ). made_with size v) (sym is_w)) makes;
 }
 
 -- of a source that names no file

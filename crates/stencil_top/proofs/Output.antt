@@ -1,5 +1,5 @@
 -- The output of a stencil, by the steps to it.
-use Rattle.std.proofs.Common.{◌≡◌, ℕ, List, Result, Ok, Err, Vec, IfOk, ap, ◌∙◌}
+use Rattle.std.proofs.Common.{◌≡◌, ℕ, Result, Ok, Err, Vec, IfOk, ap, ◌∙◌}
 use Rattle.std.specs.declared.alloc.Global.{Global}
 use Rattle.stencil_def.specs.Plane.{Plane}
 use Rattle.stencil_def.specs.Step.{fold_plane}

@@ -7,12 +7,12 @@ use Rattle.grid_text.specs.declared.fault.TextFault.TheVariants as text_fault
 use Rattle.script_text.specs.declared.fault.ScriptFault.TheVariants as script_fault
 use Rattle.stencil_top.specs.Words.{Command, Script, Stencil, file_of}
 use Rattle.stencil_top.specs.Note.{status_of, note_text, Notes}
-use Rattle.stencil_top.specs.Outcome.{Outcome, Ends, EndsWith, IsStencilOutput, answered, noted, texts_in, inputs_of, script_output}
-use Rattle.stencil_top.specs.Run.{Files, Explains, IsNoted, IsCause, IsOutcome, EndsAsTold}
+use Rattle.stencil_top.specs.Outcome.{Outcome, Ends, EndsWith, IsStencilOutput, noted, texts_in, inputs_of, script_output}
+use Rattle.stencil_top.specs.Run.{Files, Explains, IsNoted, IsCause, EndsAsTold}
 use Rattle.stencil_top.specs.declared.note.Note.{Note}
 use Rattle.stencil_top.specs.declared.note.Note.TheVariants.{Usage, TooLong, NotBuilt, BadScript, BadText, CannotRead, CannotWrite, OutOfMemory}
 use Rattle.stencil_top.specs.declared.status.Status.{Status}
-use Rattle.stencil_top.specs.declared.status.Status.TheVariants.{Done, NoMemory, WriteFault}
+use Rattle.stencil_top.specs.declared.status.Status.TheVariants.{Done, NoMemory}
 use Rattle.stencil_top.proofs.Texts.{not_true}
 use Rattle.stencil_top.proofs.Ends.{same_ends}
 

@@ -1,5 +1,5 @@
 -- How a run ends, by its words and the texts in its files.
-use Rattle.std.specs.Prelude.{◌≡◌, ℕ, nat_lt, if◌then◌else◌, ℤ, pos, List, [], ◌∷◌, length, Option, Some, None, option_and_then, Result, Ok, Err}
+use Rattle.std.specs.Prelude.{◌≡◌, ℕ, nat_lt, if◌then◌else◌, pos, List, [], ◌∷◌, length, Option, Some, None, option_and_then, Result, Ok, Err}
 use Rattle.stencil_def.specs.Plane.{Plane}
 use Rattle.stencil_def.specs.Square.{Square, square_of}
 use Rattle.stencil_def.specs.Step.{fold_plane}
@@ -14,7 +14,7 @@ use Rattle.stencil_words.specs.declared.words.Size.{Size}
 use Rattle.stencil_words.specs.declared.words.StencilWords.{StencilWords}
 use Rattle.stencil_words.specs.declared.words.Source.{Source}
 use Rattle.stencil_words.specs.declared.words.Source.TheVariants.{Grid, Make}
-use Rattle.stencil_top.specs.Words.{Command, Script, Stencil, command_of, file_of}
+use Rattle.stencil_top.specs.Words.{Command, Script, Stencil}
 use Rattle.stencil_top.specs.Note.{status_of, note_text}
 use Rattle.stencil_top.specs.declared.status.Status.{Status}
 use Rattle.stencil_top.specs.declared.status.Status.TheVariants.{Done}

@@ -1,5 +1,5 @@
 -- What the words of a command line ask for.
-use Rattle.std.specs.Prelude.{ℕ, Bool, false, ◌&&◌, ◌==◌, not, bytes_eq, codes, if◌then◌else◌, List, [], ◌∷◌, map, Option, Some, None, Vec, String, string_bytes, option_map}
+use Rattle.std.specs.Prelude.{ℕ, Bool, false, ◌&&◌, ◌==◌, not, bytes_eq, codes, if◌then◌else◌, List, [], ◌∷◌, map, Option, Some, None, Vec, String, string_bytes}
 use Rattle.std.specs.declared.alloc.Global.{Global}
 use Rattle.stencil_words.specs.Words.{stencil_reading}
 use Rattle.stencil_words.specs.declared.words.StencilWords.{StencilWords}

@@ -99,9 +99,12 @@ fn default_weights() -> Weights
 fn inputs_in(alloc: Global, weights: &[u8], grid: &[u8]) -> Result<Inputs, Note>
     ensures { Makes (inputs_in weights.now grid.now) result }
 {
-    let weights = read_square(alloc, weights)?;
-    let grid = read_plane(alloc, grid)?;
-    Ok(Inputs { grid, weights })
+    let square = read_square(alloc, weights)?;
+    let plane = read_plane(alloc, grid)?;
+    Ok(Inputs {
+        grid: plane,
+        weights: square,
+    })
 }
 
 /// A made grid, with the weights that a text reads as.

@@ -50,11 +50,7 @@ fn script<H: Shelf>(alloc: Global, name: &str, shelf: &mut H) -> Result<Vec<u8>,
 }
 
 /// The output of a stencil.
-fn stencil<H: Shelf>(
-    alloc: Global,
-    words: &StencilWords,
-    shelf: &mut H,
-) -> Result<Vec<u8>, Note>
+fn stencil<H: Shelf>(alloc: Global, words: &StencilWords, shelf: &mut H) -> Result<Vec<u8>, Note>
     requires { IsRead words.now }
     ensures gives { Gives (Some (Stencil words.now)) (H.files shelf.old)
         (H.faults shelf.old) (H.faults shelf.new) result }

@@ -1,10 +1,3 @@
-use Rattle.std.proofs.Common.{rules, ◌≡◌, ◌≤◌, Ok, Some, None, length, ℕ, ◌+◌, ◌-◌, ◌*◌, ◌<◌, ◌/◌, ◌%◌, Bool, true, false, nat_eq, nat_lt, List, [], ◌∷◌, ◌++◌, slice_index_or, slice_set, bit_and, bit_or, Fits, w8, w32, w64, Bor, MutBor}
-use Rattle.grid_text.specs.Reading.{grid_of, weights_of}
-use Rattle.stencil_words.specs.Limits.{IsSize, IsSource}
-use Rattle.stencil_words.specs.declared.words.Source.{Source}
-use Rattle.stencil_top.specs.Outcome.{answers_to, default_weights, inputs_in, inputs_of, limit_of, made_of, made_with, or_bad_text}
-use Rattle.stencil_top.specs.Run.{Finds, KeepsCount, Makes, ReadsFile}
-use Rattle.stencil_top.specs.Words.{source_file}
 use Rattle.stencil_top.proofs.reading.read_both.Goals as goal
 use Rattle.stencil_top.proofs.Texts.{moved}
 use Rattle.stencil_top.proofs.Inputs.{weights_fail, grid_fails, both_read}
