@@ -21,7 +21,7 @@ use Rattle.plain_pair.specs.Many.{Progress, no_progress, counted, mark_one_more,
 use Rattle.plain_pair.specs.Growing.{IsAt, GoesOn}
 
 -- where nothing was refused yet, one more is what its answer says
-more : (g : Shape) (k : ℕ) (done : Progress) (p : ℕ) (bytes : List ℕ) → done.refused ≡ None
+pub more : (g : Shape) (k : ℕ) (done : Progress) (p : ℕ) (bytes : List ℕ) → done.refused ≡ None
     → mark_one_more g k done (p, bytes) ≡ counted done (marked done.after p bytes) (pready_answer g done.after k p bytes)
 more g k done p bytes going = rw going refl
 
@@ -79,7 +79,7 @@ told_refused k done stop is = refused done.refused is
     refused None e = cc
     refused (Some cause) e = refl
 
-stays : (g : Shape) (k : ℕ) (done : Progress) (e : ℕ × List ℕ) → is_some done.refused ≡ true → mark_one_more g k done e ≡ done
+pub stays : (g : Shape) (k : ℕ) (done : Progress) (e : ℕ × List ℕ) → is_some done.refused ≡ true → mark_one_more g k done e ≡ done
 stays g k done e refused = rw refused refl
 
 -- where a call stands in its loop: i of its entries are marked, and nothing is refused

@@ -15,3 +15,4 @@ pub mod Looking
 pub mod Many
 pub mod Growing
 pub mod Sides
+pub mod ManyLaws

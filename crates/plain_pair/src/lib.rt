@@ -14,4 +14,5 @@ mod tests;
 
 pub use answers::{PlainLook, PlainRefusal, PlainSendTest, PlainStop, PlainTake};
 pub use arrival::PlainArrival;
+pub use many::marks_laws;
 pub use pair::{LAST_ROUND, PlainClosed, PlainPair};

@@ -3,6 +3,7 @@
 ghost use Rattle.std.specs.Prelude.{◌≡◌, ◌+◌, ◌-◌, ◌*◌, ◌≤◌, ◌==◌, length, OnOk};
 ghost use Rattle.plain_pair.specs.Growing.{GoesOn, IsAt, IsCounted};
 ghost use Rattle.plain_pair.specs.Many.{after_pready_list, after_pready_range, mark_one_more, part_of, pready_list_answer, pready_range_answer};
+ghost use Rattle.plain_pair.specs.ManyLaws.{AcceptedMarkAll, RefusedKeepMarks};
 ghost use Rattle.plain_pair.specs.Sides.{SameSides};
 ghost use Rattle.plain_pair.specs.StandsFor.{Follows};
 
@@ -120,3 +121,12 @@ fn no_marks(round: u32) -> Marks
         sent: 0,
     }
 }
+
+/// What holds of the marks of a range or a list, for proofs; the body is empty. An accepted call marked each of its
+/// partitions, in order. A refused one marked the first `at` of them, and the next is refused for the same cause as a
+/// single mark of it.
+#[tactic(auto, using(crate::proofs::ManyLawFacts::accepted_mark_all, crate::proofs::ManyLawFacts::refused_keep_marks))]
+pub fn marks_laws()
+    ensures accepted { AcceptedMarkAll }
+    ensures refused { RefusedKeepMarks }
+{}

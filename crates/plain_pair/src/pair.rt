@@ -238,7 +238,7 @@ impl PlainPair {
         ensures grows { Grows self.old self.new result }
     {
         let geometry = self.tables.geometry();
-        let base = (self.sent % geometry.depth()) as usize * geometry.recv_parts() as usize;
+        let base = self.tables.place(self.sent) * geometry.recv_parts() as usize;
         store(&self.tables, &mut self.buffers, base, p, bytes);
         add(&mut self.marked, p);
         let (first, end) = self.tables.send_pieces(p);
@@ -319,7 +319,7 @@ impl PlainPair {
         ensures inside { result < length self.now.buffers }
     {
         let geometry = self.tables.geometry();
-        let place = (self.received % geometry.depth()) as usize;
+        let place = self.tables.place(self.received);
         place * geometry.recv_parts() as usize + q
     }
 

@@ -1,6 +1,6 @@
 //! What the calls of a pair need of its geometry, laid out once.
 
-ghost use Rattle.std.specs.Prelude.{◌≡◌, ◌+◌, ◌-◌, ◌<◌, ◌≤◌, IfOk, length, map};
+ghost use Rattle.std.specs.Prelude.{◌≡◌, ◌+◌, ◌-◌, ◌%◌, ◌<◌, ◌≤◌, IfOk, length, map};
 ghost use Rattle.std.specs.List.{range_with_len};
 ghost use Rattle.part_geometry.specs.Shape.{IsShape};
 ghost use Rattle.part_geometry.specs.Cells.{cells};
@@ -137,6 +137,20 @@ impl Tables {
     {
         let _total = self.geometry.total();
         self.geometry
+    }
+
+    /// The place of a round, without a division by the depth.
+    pub(crate) fn place(&self, round: u32) -> usize
+        ensures { result ≡ round % self.now.depth }
+    {
+        let depth = self.geometry().depth();
+        let place = match depth {
+            1 => 0,
+            2 => round % 2,
+            3 => round % 3,
+            _ => round % 4,
+        };
+        place as usize
     }
 
     /// How many send partitions each piece touches.

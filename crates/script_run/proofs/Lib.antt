@@ -1,8 +1,4 @@
-pub mod Numbers
-pub mod Pairs
-pub mod Arguments
+pub mod Zips
+pub mod Slots
 pub mod Steps
-pub mod Bodies
-pub mod Made
-pub mod Heads
-pub mod Shown
+pub mod Reports

@@ -1,6 +1,6 @@
-pub mod Words
-pub mod Lines
-pub mod Built
+pub mod State
 pub mod Texts
-pub mod Setting
 pub mod Run
+pub mod Names
+pub mod Pairs
+pub mod Running

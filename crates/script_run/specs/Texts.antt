@@ -1,75 +1,18 @@
--- The text of each answer, without the LF behind it.
-use Rattle.std.specs.Prelude.{ℕ, ◌+◌, ◌/◌, ◌%◌, nat_lt, if◌then◌else◌, codes, List, [], ◌∷◌, ◌++◌, Result, Ok, Err}
+-- The texts of answers that are no pair's.
+use Rattle.std.specs.Prelude.{ℕ, codes, List, ◌++◌, Result, Ok, Err}
 use Rattle.std.specs.Fmt.{decimal}
-use Rattle.part_geometry.specs.declared.answers.Marked.{Marked}
-use Rattle.part_geometry.specs.declared.answers.StartFault.{StartFault}
-use Rattle.part_geometry.specs.declared.answers.StartFault.TheVariants.{AlreadyActive, RoundsSpent}
-use Rattle.plain_pair.specs.declared.answers.PlainLook.{PlainLook}
-use Rattle.plain_pair.specs.declared.answers.PlainLook.TheVariants as look
-use Rattle.plain_pair.specs.declared.answers.PlainRefusal.{PlainRefusal}
-use Rattle.plain_pair.specs.declared.answers.PlainRefusal.TheVariants as refusal
-use Rattle.plain_pair.specs.declared.answers.PlainTake.{PlainTake}
-use Rattle.plain_pair.specs.declared.answers.PlainTake.TheVariants as take
-use Rattle.plain_pair.specs.declared.pair.PlainClosed.{PlainClosed}
-use Rattle.plain_pair.specs.Taken.{Taken}
+use Rattle.init_match.specs.declared.answers.InitFault.{InitFault}
+use Rattle.init_match.specs.declared.answers.InitFault.TheVariants.{BadRank, BadTag, BadComm, BadParts, BadBytes, TooLong, SizeMismatch, WorldFull, NoMemory}
 
--- a hexadecimal digit in lower case
-abbrev pub hex_digit : ℕ → ℕ
-hex_digit n = if nat_lt n 10 then 48 + n else 87 + n
-
--- two digits a byte, the high one first
-abbrev pub hex_of : List ℕ → List ℕ
-hex_of [] = []
-hex_of (byte ∷ rest) = hex_digit (byte / 16) ∷ hex_digit (byte % 16) ∷ hex_of rest
-
--- of `start`
-abbrev pub start_text : Result ℕ StartFault → List ℕ
-start_text (Ok k) = codes "round " ++ decimal k
-start_text (Err (AlreadyActive k)) = codes "refused AlreadyActive " ++ decimal k
-start_text (Err RoundsSpent) = codes "refused RoundsSpent"
-
--- why a mark was refused
-abbrev pub refusal_text : PlainRefusal → List ℕ
-refusal_text refusal.BadPartition = codes "refused BadPartition"
-refusal_text refusal.BadLength = codes "refused BadLength"
-refusal_text refusal.NotActive = codes "refused NotActive"
-refusal_text refusal.AlreadyMarked = codes "refused AlreadyMarked"
-refusal_text refusal.BadRange = codes "refused BadRange"
-
--- of `ready`
-abbrev pub ready_text : Result Marked PlainRefusal → List ℕ
-ready_text (Ok m) = codes "marked " ++ decimal m.sent
-ready_text (Err cause) = refusal_text cause
-
--- of `arrived`
-abbrev pub arrived_text : PlainLook → List ℕ
-arrived_text look.Arrived = codes "flag 1"
-arrived_text (look.NotYet i) = codes "flag 0 piece " ++ decimal i
-arrived_text look.Idle = codes "flag 1 idle"
-arrived_text look.BadPartition = codes "refused BadPartition"
-
--- why a partition wasn't taken
-abbrev pub untaken_text : PlainTake → List ℕ
-untaken_text take.Idle = codes "refused Idle"
-untaken_text take.BadPartition = codes "refused BadPartition"
-untaken_text (take.AlreadyTaken k) = codes "refused AlreadyTaken " ++ decimal k
-untaken_text (take.NotYet i) = codes "refused NotYet " ++ decimal i
-
--- bytes that were taken
-abbrev pub bytes_text : List ℕ → List ℕ
-bytes_text bytes = codes "bytes " ++ hex_of bytes
-
--- of `take`
-abbrev pub take_text : Result Taken PlainTake → List ℕ
-take_text (Ok taken) = bytes_text taken.bytes
-take_text (Err cause) = untaken_text cause
-
--- how far the pair came
-abbrev pub closed_text : PlainClosed → List ℕ
-closed_text c =
-    codes " started " ++ decimal c.send_round ++ codes " " ++ decimal c.recv_round ++ codes " released " ++ decimal c.released
-    ++ codes " pieces " ++ decimal c.pieces_out
-
--- of `end`, with the names of the sender and the receiver
-abbrev pub end_text : List ℕ → List ℕ → PlainClosed → List ℕ
-end_text send recv c = codes "pair " ++ send ++ codes " " ++ recv ++ closed_text c
+-- of `send` and `recv`; want of memory ends the run and has no text
+abbrev pub init_text : Result ℕ InitFault → List ℕ
+init_text (Ok slot) = codes "ok"
+init_text (Err BadRank) = codes "refused BadRank"
+init_text (Err BadTag) = codes "refused BadTag"
+init_text (Err BadComm) = codes "refused BadComm"
+init_text (Err BadParts) = codes "refused BadParts"
+init_text (Err BadBytes) = codes "refused BadBytes"
+init_text (Err TooLong) = codes "refused TooLong"
+init_text (Err (SizeMismatch send recv)) = codes "refused SizeMismatch " ++ decimal send ++ codes " " ++ decimal recv
+init_text (Err (WorldFull sum)) = codes "refused WorldFull " ++ decimal sum
+init_text (Err NoMemory) = codes ""

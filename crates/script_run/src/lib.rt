@@ -1,18 +1,15 @@
-//! Scripts: texts of commands for one pair of partitioned requests, read into typed lines and run.
+//! Scripts of calls on pairs of partitioned requests, run.
 #![tactic(auto)]
 
-mod fault;
-mod line;
-mod reading;
+mod names;
+mod pairs;
+mod report;
+mod requests;
 mod run;
-mod script;
 mod texts;
-mod words;
 
-pub use fault::ScriptFault;
-pub use line::{Bytes, Init, Line, Name};
 pub use run::run_script;
-pub use script::{Script, parse_script};
+pub use script_text::{Script, ScriptFault, parse_script};
 
 #[cfg(test)]
 mod tests;

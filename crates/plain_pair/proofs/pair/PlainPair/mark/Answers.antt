@@ -9,7 +9,7 @@ use Rattle.plain_pair.proofs.pair.PlainPair.mark.Goals as goal
 
 pub store-requires-clause-room : goal.store-requires-clause-room
 store-requires-clause-room c =
-    rw (c.depth.ensures.value, c.recv_parts.ensures.value, c.geometry-geometry.ensures.value)
+    rw (c.place.ensures, c.recv_parts.ensures.value, c.geometry-geometry.ensures.value)
     (room_now (kept_of c.self.inside) _ _ c.self.invariant (subst (λ k. CanMark k c.args.p) (sym c.self.view_is) c.requires.free))
 
 pub count_down-requires-clause-few : goal.count_down-requires-clause-few
@@ -28,7 +28,7 @@ left c = record {
   size = c.requires.length ∙ ap (λ k. k.shape.send_bytes) (sym c.self.view_is);
   touched = c.send_pieces-first.ensures;
   lessens = c.count_down.ensures.left;
-  stores = rw (c.depth.ensures.value, c.recv_parts.ensures.value, c.geometry-geometry.ensures.value) at c.store.ensures;
+  stores = rw (c.place.ensures, c.recv_parts.ensures.value, c.geometry-geometry.ensures.value) at c.store.ensures;
 }
 
 pub invariant_of-self : goal.invariant_of-self

@@ -1,0 +1,4 @@
+pub mod Desk
+pub mod Texts
+pub mod Answers
+pub mod Held
