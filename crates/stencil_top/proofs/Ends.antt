@@ -9,7 +9,7 @@ use Rattle.stencil_top.specs.Run.{Files, AreIn, IsNoted, Gives, ReadsFile, RunsS
 use Rattle.stencil_top.specs.declared.note.TextName.{TextName}
 use Rattle.stencil_top.specs.declared.note.TextName.TheVariants as text
 use Rattle.stencil_top.specs.declared.note.Note.{Note}
-use Rattle.stencil_top.specs.declared.note.Note.TheVariants.{Usage, TooLong, NotBuilt, BadScript, BadText, CannotRead, CannotWrite, OutOfMemory}
+use Rattle.stencil_top.specs.declared.note.Note.TheVariants.{Usage, TooLong, BadScript, BadText, CannotRead, CannotWrite, OutOfMemory}
 use Rattle.stencil_top.proofs.Texts.{not_true, texts_of, is_found, read_short, fails, made_comes}
 
 -- the note of a cause, where what was wanted came to that cause
@@ -30,7 +30,6 @@ pub none_given : {A : Type 0} (command : Option Command) (files : Files) (before
     → (cause : Note) → Finds (file_of command) files before now wanted (Err cause) → Gives command files before now (Err cause)
 none_given command files before now wanted IsOutput to Usage f = absurd f.comes
 none_given command files before now wanted IsOutput to (TooLong w) f = is_noted command files before now wanted IsOutput _ to f (TooLong w) f.comes
-none_given command files before now wanted IsOutput to NotBuilt f = is_noted command files before now wanted IsOutput _ to f NotBuilt f.comes
 none_given command files before now wanted IsOutput to (BadScript fault) f = is_noted command files before now wanted IsOutput _ to f (BadScript fault) f.comes
 none_given command files before now wanted IsOutput to (BadText w fault) f = is_noted command files before now wanted IsOutput _ to f (BadText w fault) f.comes
 none_given command files before now wanted IsOutput to (CannotRead w) f =

@@ -11,7 +11,7 @@ use Rattle.stencil_top.specs.Run.{Files, Needs, IsUnread, FindsText, ReadsFile, 
 use Rattle.stencil_top.specs.declared.note.TextName.{TextName}
 use Rattle.stencil_top.specs.declared.note.TextName.TheVariants as text
 use Rattle.stencil_top.specs.declared.note.Note.{Note}
-use Rattle.stencil_top.specs.declared.note.Note.TheVariants.{Usage, TooLong, NotBuilt, BadScript, BadText, CannotRead, CannotWrite, OutOfMemory}
+use Rattle.stencil_top.specs.declared.note.Note.TheVariants.{Usage, TooLong, BadScript, BadText, CannotRead, CannotWrite, OutOfMemory}
 
 -- a test doesn't fail and hold
 pub not_true : false ≡ true → ⊥
@@ -90,7 +90,6 @@ pub fails : {A : Type 0} (needs : Needs) (files : Files) (before now : ℕ) (whi
 fails needs files before now which name found Usage wanted needed held first finds = absurd finds
 fails needs files before now which name found (TooLong w) wanted needed held first finds =
     first (TooLong w) (read_long which found finds.1 ∙ ap (λ (x : TextName). Err (TooLong x)) (sym finds.0))
-fails needs files before now which name found NotBuilt wanted needed held first finds = absurd finds
 fails needs files before now which name found (BadScript fault) wanted needed held first finds = absurd finds
 fails needs files before now which name found (BadText w fault) wanted needed held first finds = absurd finds
 fails needs files before now which name found (CannotRead w) wanted needed held first finds =
@@ -104,7 +103,6 @@ pub made_comes : {A : Type 0} (needs : Needs) (files : Files) (before now : ℕ)
 made_comes needs files before now wanted made (Ok x) e makes = e ∙ makes
 made_comes needs files before now wanted made (Err Usage) e makes = absurd makes
 made_comes needs files before now wanted made (Err (TooLong w)) e makes = e ∙ makes
-made_comes needs files before now wanted made (Err NotBuilt) e makes = e ∙ makes
 made_comes needs files before now wanted made (Err (BadScript fault)) e makes = e ∙ makes
 made_comes needs files before now wanted made (Err (BadText w fault)) e makes = e ∙ makes
 made_comes needs files before now wanted made (Err (CannotRead w)) e makes = absurd makes

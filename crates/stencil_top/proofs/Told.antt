@@ -10,7 +10,7 @@ use Rattle.stencil_top.specs.Note.{status_of, note_text, Notes}
 use Rattle.stencil_top.specs.Outcome.{Outcome, Ends, EndsWith, IsStencilOutput, noted, texts_in, inputs_of, script_output}
 use Rattle.stencil_top.specs.Run.{Files, Explains, IsNoted, IsCause, EndsAsTold}
 use Rattle.stencil_top.specs.declared.note.Note.{Note}
-use Rattle.stencil_top.specs.declared.note.Note.TheVariants.{Usage, TooLong, NotBuilt, BadScript, BadText, CannotRead, CannotWrite, OutOfMemory}
+use Rattle.stencil_top.specs.declared.note.Note.TheVariants.{Usage, TooLong, BadScript, BadText, CannotRead, CannotWrite, OutOfMemory}
 use Rattle.stencil_top.specs.declared.status.Status.{Status}
 use Rattle.stencil_top.specs.declared.status.Status.TheVariants.{Done, NoMemory}
 use Rattle.stencil_top.proofs.Texts.{not_true}
@@ -30,7 +30,6 @@ explained command held Says x = (x.end, same_ends command x.texts (texts_in (fil
 never_done : (cause : Note) → status_of cause ≢ Done
 never_done Usage is = cc
 never_done (TooLong w) is = cc
-never_done NotBuilt is = cc
 never_done (BadScript script_fault.NoMemory) is = cc
 never_done (BadScript _) is = cc
 never_done (BadText w text_fault.NoMemory) is = cc
@@ -103,8 +102,6 @@ told_cause command held W Usage status out out' line line' b n b' n' status_is i
     inr (noted_as_told command held Usage status out out' line line' b n status_is (nothing (λ w. no_write (write w))) notes (no_command command held is))
 told_cause command held W (TooLong w) status out out' line line' b n b' n' status_is is write nothing notes no_read no_write =
     inr (noted_as_told command held (TooLong w) status out out' line line' b n status_is (nothing (λ w. no_write (write w))) notes is)
-told_cause command held W NotBuilt status out out' line line' b n b' n' status_is is write nothing notes no_read no_write =
-    inr (noted_as_told command held NotBuilt status out out' line line' b n status_is (nothing (λ w. no_write (write w))) notes is)
 told_cause command held W (BadScript fault) status out out' line line' b n b' n' status_is is write nothing notes no_read no_write =
     inr (noted_as_told command held (BadScript fault) status out out' line line' b n status_is (nothing (λ w. no_write (write w))) notes is)
 told_cause command held W (BadText w fault) status out out' line line' b n b' n' status_is is write nothing notes no_read no_write =

@@ -12,13 +12,12 @@ use Rattle.stencil_top.specs.declared.status.Status.TheVariants as status
 use Rattle.stencil_top.specs.declared.note.TextName.{TextName}
 use Rattle.stencil_top.specs.declared.note.TextName.TheVariants as text
 use Rattle.stencil_top.specs.declared.note.Note.{Note}
-use Rattle.stencil_top.specs.declared.note.Note.TheVariants.{Usage, TooLong, NotBuilt, BadScript, BadText, CannotRead, CannotWrite, OutOfMemory}
+use Rattle.stencil_top.specs.declared.note.Note.TheVariants.{Usage, TooLong, BadScript, BadText, CannotRead, CannotWrite, OutOfMemory}
 
 -- the status of a run that ends for this cause
 abbrev pub status_of : Note → Status
 status_of Usage = status.Usage
 status_of (TooLong _) = status.Refused
-status_of NotBuilt = status.Refused
 status_of (BadScript script_fault.NoMemory) = status.NoMemory
 status_of (BadScript _) = status.Refused
 status_of (BadText _ text_fault.NoMemory) = status.NoMemory
@@ -67,7 +66,6 @@ script_message script_fault.NoMemory = out_of_memory
 unfoldable pub message_of : Note → List ℕ
 message_of Usage = codes "usage: partstencil stencil OPTIONS | partstencil script FILE"
 message_of (TooLong which) = codes "partstencil: " ++ name_of which ++ codes ": too long"
-message_of NotBuilt = codes "partstencil: script: not built yet"
 message_of (BadScript fault) = script_message fault
 message_of (BadText which fault) = text_message which fault
 message_of (CannotRead which) = codes "partstencil: cannot read " ++ name_of which

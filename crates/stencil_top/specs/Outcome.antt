@@ -8,7 +8,8 @@ use Rattle.grid_text.specs.Reading.{grid_of, weights_of}
 use Rattle.grid_text.specs.Printing.{grid_text, summary_text}
 use Rattle.grid_text.specs.Making.{made_grid}
 use Rattle.grid_text.specs.declared.fault.TextFault.{TextFault}
-use Rattle.script_run.specs.Built.{script_of}
+use Rattle.script_text.specs.Script.{script_of}
+use Rattle.script_text.specs.declared.fault.ScriptFault.{ScriptFault}
 use Rattle.script_run.specs.Run.{answers_of}
 use Rattle.stencil_words.specs.declared.words.Size.{Size}
 use Rattle.stencil_words.specs.declared.words.StencilWords.{StencilWords}
@@ -21,7 +22,7 @@ use Rattle.stencil_top.specs.declared.status.Status.TheVariants.{Done}
 use Rattle.stencil_top.specs.declared.note.TextName.{TextName}
 use Rattle.stencil_top.specs.declared.note.TextName.TheVariants as text
 use Rattle.stencil_top.specs.declared.note.Note.{Note}
-use Rattle.stencil_top.specs.declared.note.Note.TheVariants.{Usage, TooLong, NotBuilt, BadText, CannotRead}
+use Rattle.stencil_top.specs.declared.note.Note.TheVariants.{Usage, TooLong, BadScript, BadText, CannotRead}
 use Rattle.stencil_top.specs.declared.reading.Inputs.{Inputs}
 
 -- the text of each name, where there is one
@@ -50,14 +51,14 @@ abbrev pub or_bad_text : {A : Type 0} → TextName → Result A TextFault → Re
 or_bad_text which (Ok x) = Ok x
 or_bad_text which (Err fault) = Err (BadText which fault)
 
-abbrev pub or_not_built : {A : Type 0} → Option A → Result A Note
-or_not_built (Some x) = Ok x
-or_not_built None = Err NotBuilt
+abbrev pub or_bad_script : {A : Type 0} → Result A ScriptFault → Result A Note
+or_bad_script (Ok x) = Ok x
+or_bad_script (Err fault) = Err (BadScript fault)
 
 -- the answers to the script that a text is
 abbrev pub answers_to : List ℕ → Result (List ℕ) Note
 answers_to text = do
-  script ← or_not_built (script_of text)
+  script ← or_bad_script (script_of text)
   Ok (answers_of script)
 
 abbrev pub script_output : Texts → Result (List ℕ) Note

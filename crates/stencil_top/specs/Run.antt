@@ -9,7 +9,7 @@ use Rattle.stencil_top.specs.declared.status.Status.{Status}
 use Rattle.stencil_top.specs.declared.status.Status.TheVariants.{Done}
 use Rattle.stencil_top.specs.declared.note.TextName.{TextName}
 use Rattle.stencil_top.specs.declared.note.Note.{Note}
-use Rattle.stencil_top.specs.declared.note.Note.TheVariants.{Usage, TooLong, NotBuilt, BadScript, BadText, CannotRead, CannotWrite, OutOfMemory}
+use Rattle.stencil_top.specs.declared.note.Note.TheVariants.{Usage, TooLong, BadScript, BadText, CannotRead, CannotWrite, OutOfMemory}
 
 -- the files, by name, where they are told
 abbrev pub Files : Type 0
@@ -46,7 +46,6 @@ IsNoted cause command files = Explains command files (λ end. end ≡ noted caus
 abbrev pub IsCause : Note → Option Command → Files → ℕ → ℕ → Type 0
 IsCause Usage command files before now = command ≡ None
 IsCause (TooLong which) command files before now = IsNoted (TooLong which) command files
-IsCause NotBuilt command files before now = IsNoted NotBuilt command files
 IsCause (BadScript fault) command files before now = IsNoted (BadScript fault) command files
 IsCause (BadText which fault) command files before now = IsNoted (BadText which fault) command files
 IsCause (CannotRead which) command files before now =

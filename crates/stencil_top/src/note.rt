@@ -37,9 +37,6 @@ pub enum Note {
     /// The file is longer than such a text may be.
     #[error("the text is too long")]
     TooLong(TextName),
-    /// The script has a form that isn't built yet.
-    #[error("the script is not built yet")]
-    NotBuilt,
     /// The script's text is refused.
     #[error("the script is refused")]
     BadScript(ScriptFault),
@@ -67,9 +64,7 @@ impl Note {
             Note::BadScript(ScriptFault::NoMemory)
             | Note::BadText(_, TextFault::NoMemory)
             | Note::OutOfMemory => Status::NoMemory,
-            Note::TooLong(_) | Note::NotBuilt | Note::BadScript(_) | Note::BadText(_, _) => {
-                Status::Refused
-            }
+            Note::TooLong(_) | Note::BadScript(_) | Note::BadText(_, _) => Status::Refused,
             Note::CannotRead(_) => Status::ReadFault,
             Note::CannotWrite => Status::WriteFault,
         }
@@ -208,7 +203,6 @@ fn message(note: Note) -> Line
     match note {
         Note::Usage => plain_line("usage: partstencil stencil OPTIONS | partstencil script FILE"),
         Note::TooLong(text) => file_line("partstencil: ", text, ": too long"),
-        Note::NotBuilt => plain_line("partstencil: script: not built yet"),
         Note::BadScript(fault) => script_line(fault),
         Note::BadText(text, fault) => text_line(text, fault),
         Note::CannotRead(text) => file_line("partstencil: cannot read ", text, ""),

@@ -17,7 +17,8 @@ use crate::status::Status;
 use crate::stencil::stencil_output;
 use crate::words::script_name;
 use part_io::{Shelf, Sink};
-use script_run::{ScriptFault, parse_script, run_script};
+use script_run::run_script;
+use script_text::{ScriptFault, parse_script};
 use std::alloc::Global;
 use stencil_words::{StencilWords, read_words};
 
@@ -28,8 +29,8 @@ fn run_text(alloc: Global, text: &[u8]) -> Result<Vec<u8>, Note>
 {
     let script = match parse_script(alloc, text) {
         Ok(script) => script,
-        Err(ScriptFault::NotBuilt) => return Err(Note::NotBuilt),
         Err(ScriptFault::NoMemory) => return Err(Note::OutOfMemory),
+        Err(fault) => return Err(Note::BadScript(fault)),
     };
     match run_script(alloc, &script) {
         Ok(answers) => Ok(answers),
