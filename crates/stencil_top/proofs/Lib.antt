@@ -1,2 +1,5 @@
-pub mod Steps
+pub mod Texts
+pub mod Inputs
+pub mod Ends
 pub mod Told
+pub mod Output

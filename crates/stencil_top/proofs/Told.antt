@@ -1,90 +1,122 @@
--- A run whose files are told ends with the one outcome that they have, where nothing failed.
-use Rattle.std.proofs.Common.{◌≡◌, ◌≢◌, ℕ, ◌⊎◌, inl, inr, List, [], length, Option, Some, None, IfSome, IsSomeAnd, refl, sym, ap, ◌∙◌, subst}
-use Rattle.part_io.specs.Sink.{Adds}
-use Rattle.std.proofs.lemmas.Bool.{lt-ltb, le-ltb}
+-- A run whose files are told ends with the outcome that its command has with them, where nothing failed.
+use Rattle.std.proofs.Common.{◌≡◌, ◌≢◌, ◌⊎◌, inl, inr, ℕ, List, [], Option, Some, None, Result, Ok, Err, IfSome, refl, sym, ap, ◌∙◌, subst}
 use Rattle.std.proofs.lemmas.List.{append-nil}
-use Rattle.stencil_top.specs.Words.{reading}
+use Rattle.part_io.specs.Causes.{Rose}
+use Rattle.part_io.specs.Sink.{Adds}
+use Rattle.grid_text.specs.declared.fault.TextFault.TheVariants as text_fault
+use Rattle.script_text.specs.declared.fault.ScriptFault.TheVariants as script_fault
+use Rattle.stencil_top.specs.Words.{Command, Script, Stencil, file_of}
 use Rattle.stencil_top.specs.Note.{status_of, note_text, Notes}
-use Rattle.stencil_top.specs.Outcome.{Outcome, noted, lines_outcome, file_outcome, name_outcome, outcome}
-use Rattle.stencil_top.specs.Serial.{LacksFile, IsTooLong, IsNotBuilt, IsCause, IsOutcome}
+use Rattle.stencil_top.specs.Outcome.{Outcome, Ends, EndsWith, IsStencilOutput, noted, texts_in, inputs_of, script_output}
+use Rattle.stencil_top.specs.Run.{Files, Explains, IsNoted, IsCause, EndsAsTold}
 use Rattle.stencil_top.specs.declared.note.Note.{Note}
-use Rattle.stencil_top.specs.declared.note.Note.TheVariants.{Usage, TooLong, NotBuilt, CannotRead, CannotWrite, OutOfMemory}
+use Rattle.stencil_top.specs.declared.note.Note.TheVariants.{Usage, TooLong, BadScript, BadText, CannotRead, CannotWrite, OutOfMemory}
 use Rattle.stencil_top.specs.declared.status.Status.{Status}
-use Rattle.stencil_top.specs.declared.status.Status.TheVariants.{NoMemory, WriteFault}
-use Rattle.stencil_top.proofs.Steps.{the_value}
-
--- the outcome goes by the file
-at_file : (words : List (List ℕ)) (files : List ℕ → Option (List ℕ)) (name : List ℕ) (file : Option (List ℕ)) → reading words ≡ Some name → files name ≡ file
-    → outcome words files ≡ file_outcome file
-at_file words files name file read is = ap (λ r. name_outcome r files) read ∙ ap file_outcome is
-
--- a text that is too long
-long_file : (text : List ℕ) → IsTooLong text → file_outcome (Some text) ≡ noted TooLong
-long_file text long = rw (lt-ltb 1048576 (length text) long) refl
-
--- a text that is no script
-other_file : (text : List ℕ) → IsNotBuilt text → file_outcome (Some text) ≡ noted NotBuilt
-other_file text other = rw (le-ltb 1048576 (length text) other.0) (ap lines_outcome other.1)
-
--- the words and the file that a cause tells of
-at_cause : (words : List (List ℕ)) (files : List ℕ → Option (List ℕ)) (P : List ℕ → Type 0) (end : Outcome)
-    → ((text : List ℕ) → P text → file_outcome (Some text) ≡ end) → IsSomeAnd (reading words) (λ name. IsSomeAnd (files name) P) → outcome words files ≡ end
-at_cause words files P end ends cause =
-    let named = the_value (reading words) (λ name. IsSomeAnd (files name) P) cause in
-    let held = the_value (files named.0) P named.2 in
-    at_file words files named.0 (Some held.0) named.1 held.1 ∙ ends held.0 held.2
-
--- the name is among the files, or nothing failed
-at_lack : (words : List (List ℕ)) (files : List ℕ → Option (List ℕ)) (Failed : Type 0) → ¬ Failed
-    → IsSomeAnd (reading words) (λ name. Failed ⊎ LacksFile (Some files) name) → outcome words files ≡ noted CannotRead
-at_lack words files Failed none cause =
-    let named = the_value (reading words) (λ name. Failed ⊎ LacksFile (Some files) name) cause in
-    elim named.2 [
-      | inl failed ↦ absurd (none failed)
-      | inr lacks ↦ at_file words files named.0 None named.1 lacks
-    ]
-
--- the outcome of a run that ends for this cause, where the outside did not fail
-pub noted_outcome : (words : List (List ℕ)) (files : List ℕ → Option (List ℕ)) (ReadFailed WriteFailed : Type 0) (cause : Note)
-    → ¬ ReadFailed → ¬ WriteFailed → IsCause cause words (Some files)
-    → (cause ≡ CannotRead → IsSomeAnd (reading words) (λ name. ReadFailed ⊎ LacksFile (Some files) name))
-    → (cause ≡ CannotWrite → WriteFailed) → (cause ≡ OutOfMemory) ⊎ (outcome words files ≡ noted cause)
-noted_outcome words files R W Usage no_read no_write is read write = inr (ap (λ r. name_outcome r files) is)
-noted_outcome words files R W TooLong no_read no_write is read write = inr (at_cause words files IsTooLong (noted TooLong) long_file is)
-noted_outcome words files R W NotBuilt no_read no_write is read write = inr (at_cause words files IsNotBuilt (noted NotBuilt) other_file is)
-noted_outcome words files R W CannotRead no_read no_write is read write = inr (at_lack words files R no_read (read refl))
-noted_outcome words files R W CannotWrite no_read no_write is read write = absurd (no_write (write refl))
-noted_outcome words files R W OutOfMemory no_read no_write is read write = inl refl
+use Rattle.stencil_top.specs.declared.status.Status.TheVariants.{Done, NoMemory}
+use Rattle.stencil_top.proofs.Texts.{not_true}
+use Rattle.stencil_top.proofs.Ends.{same_ends}
 
 -- what is as it was has nothing more
 pub adds_none : (old new : Option (List ℕ)) → new ≡ old → Adds old new []
 adds_none None new same = same
 adds_none (Some bytes) new same = same ∙ ap Some (sym (append-nil bytes))
 
--- what a run that ends for this cause says of its outcome
-pub told : (held : Option (List ℕ → Option (List ℕ))) (words : List (List ℕ)) (ReadFailed WriteFailed : Type 0) (cause : Note) (status : Status)
-    (out out' line line' : Option (List ℕ)) (before now : ℕ)
-    → status ≡ status_of cause → IsCause cause words held
-    → (cause ≡ CannotRead → IsSomeAnd (reading words) (λ name. ReadFailed ⊎ LacksFile held name)) → (cause ≡ CannotWrite → WriteFailed)
-    → (cause ≢ CannotWrite → out' ≡ out) → Notes line line' before now (note_text cause)
-    → IfSome held (λ files. ¬ ReadFailed → ¬ WriteFailed
-    → (status ≡ NoMemory) ⊎ IsOutcome (outcome words files) status out out' line line' before now)
-told None words R W cause status out out' line line' before now status_is is read write nothing notes = tt
-told (Some files) words R W cause status out out' line line' before now status_is is read write nothing notes = λ no_read no_write.
-    elim (noted_outcome words files R W cause no_read no_write is read write) [
-      | inl e ↦ inl (status_is ∙ ap status_of e)
-      | inr e ↦ inr record {
-        status_is = status_is ∙ ap (λ (o : Outcome). o.status) (sym e);
-        output = subst (λ (o : Outcome). Adds out out' o.output) (sym e) (adds_none out out' (nothing (λ w. no_write (write w))));
-        noted = λ calm. subst (λ (o : Outcome). Adds line line' o.note) (sym e) (notes.whole calm);
-      }
-    ]
+-- the outcome with the texts in the files
+pub explained : (command : Option Command) (held : List ℕ → Option (List ℕ)) (Says : Outcome → Type 0) → Explains command (Some held) Says
+    → (end : Outcome) × Ends command (texts_in (file_of command) held) end × Says end
+explained command held Says x = (x.end, same_ends command x.texts (texts_in (file_of command) held) x.end x.found x.ends, x.says)
 
--- the one cause whose status is that of a failed write
-pub is_write : (cause : Note) → status_of cause ≡ WriteFault → cause ≡ CannotWrite
-is_write Usage is = cc
-is_write TooLong is = cc
-is_write NotBuilt is = cc
-is_write CannotRead is = cc
-is_write CannotWrite is = refl
-is_write OutOfMemory is = cc
+-- no note ends with the output written
+never_done : (cause : Note) → status_of cause ≢ Done
+never_done Usage is = cc
+never_done (TooLong w) is = cc
+never_done (BadScript script_fault.NoMemory) is = cc
+never_done (BadScript _) is = cc
+never_done (BadText w text_fault.NoMemory) is = cc
+never_done (BadText w _) is = cc
+never_done (CannotRead w) is = cc
+never_done CannotWrite is = cc
+never_done OutOfMemory is = cc
+
+-- with the output written nothing is noted
+quiet_with : {A : Type 0} (r : Result A Note) (IsOutput : A → List ℕ → Type 0) (end : Outcome) → EndsWith r IsOutput end → end.status ≡ Done → end.note ≡ []
+quiet_with (Ok x) IsOutput end ends done = ap (λ (o : Outcome). o.note) ends.2
+quiet_with (Err cause) IsOutput end ends done = absurd (never_done cause (ap (λ (o : Outcome). o.status) (sym ends) ∙ done))
+
+quiet : (command : Option Command) (t : _) (end : Outcome) → Ends command t end → end.status ≡ Done → end.note ≡ []
+quiet None t end ends done = absurd (never_done Usage (ap (λ (o : Outcome). o.status) (sym ends) ∙ done))
+quiet (Some (Script name)) t end ends done = quiet_with (script_output t) _ end ends done
+quiet (Some (Stencil w)) t end ends done = quiet_with (inputs_of w.source t) (IsStencilOutput w) end ends done
+
+-- an output that was written
+pub told_output : (files : Files) (command : Option Command) (ReadFailed WriteFailed : Type 0) (out out' line : Option (List ℕ)) (count : ℕ)
+    → Explains command files (λ end. (end.status ≡ Done) × Adds out out' end.output)
+    → IfSome files (λ held. ¬ ReadFailed → ¬ WriteFailed → (Done ≡ NoMemory) ⊎ EndsAsTold command held Done out out' line line count count)
+told_output None command R W out out' line count x = tt
+told_output (Some held) command R W out out' line count x = λ no_read no_write.
+    let e = explained command held (λ end. (end.status ≡ Done) × Adds out out' end.output) x in
+    inr record {
+      end = e.0;
+      ends = e.1;
+      is = record {
+        status_is = sym e.2.0;
+        output = e.2.1;
+        noted = λ calm. subst (λ (n : List ℕ). Adds line line n) (sym (quiet command (texts_in (file_of command) held) e.0 e.1 e.2.0)) (adds_none line line refl);
+      };
+    }
+
+-- the outcome that is noted
+noted_as_told : (command : Option Command) (held : List ℕ → Option (List ℕ)) (cause : Note) (status : Status) (out out' line line' : Option (List ℕ)) (before now : ℕ)
+    → status ≡ status_of cause → out' ≡ out → Notes line line' before now (note_text cause)
+    → IsNoted cause command (Some held) → EndsAsTold command held status out out' line line' before now
+noted_as_told command held cause status out out' line line' before now status_is same notes x =
+    let e = explained command held (λ end. end ≡ noted cause) x in
+    record {
+      end = e.0;
+      ends = e.1;
+      is = record {
+        status_is = status_is ∙ ap (λ (o : Outcome). o.status) (sym e.2);
+        output = subst (λ (o : Outcome). Adds out out' o.output) (sym e.2) (adds_none out out' same);
+        noted = λ calm. subst (λ (o : Outcome). Adds line line' o.note) (sym e.2) (notes.whole calm);
+      };
+    }
+
+-- words that ask for nothing
+no_command : (command : Option Command) (held : List ℕ → Option (List ℕ)) → command ≡ None → IsNoted Usage command (Some held)
+no_command command held is =
+    subst (λ (c : Option Command). IsNoted Usage c (Some held)) (sym is) record {
+      texts = λ which. None;
+      end = noted Usage;
+      found = λ which needed. absurd (not_true needed);
+      ends = refl;
+      says = refl;
+    }
+
+-- a cause that was noted
+told_cause : (command : Option Command) (held : List ℕ → Option (List ℕ)) (WriteFailed : Type 0) (cause : Note) (status : Status)
+    (out out' line line' : Option (List ℕ)) (before now before' now' : ℕ)
+    → status ≡ status_of cause → IsCause cause command (Some held) before' now' → (cause ≡ CannotWrite → WriteFailed)
+    → (cause ≢ CannotWrite → out' ≡ out) → Notes line line' before now (note_text cause) → ¬ Rose before' now' → ¬ WriteFailed
+    → (status ≡ NoMemory) ⊎ EndsAsTold command held status out out' line line' before now
+told_cause command held W Usage status out out' line line' b n b' n' status_is is write nothing notes no_read no_write =
+    inr (noted_as_told command held Usage status out out' line line' b n status_is (nothing (λ w. no_write (write w))) notes (no_command command held is))
+told_cause command held W (TooLong w) status out out' line line' b n b' n' status_is is write nothing notes no_read no_write =
+    inr (noted_as_told command held (TooLong w) status out out' line line' b n status_is (nothing (λ w. no_write (write w))) notes is)
+told_cause command held W (BadScript fault) status out out' line line' b n b' n' status_is is write nothing notes no_read no_write =
+    inr (noted_as_told command held (BadScript fault) status out out' line line' b n status_is (nothing (λ w. no_write (write w))) notes is)
+told_cause command held W (BadText w fault) status out out' line line' b n b' n' status_is is write nothing notes no_read no_write =
+    inr (noted_as_told command held (BadText w fault) status out out' line line' b n status_is (nothing (λ w. no_write (write w))) notes is)
+told_cause command held W (CannotRead w) status out out' line line' b n b' n' status_is is write nothing notes no_read no_write =
+    inr (noted_as_told command held (CannotRead w) status out out' line line' b n status_is (nothing (λ w. no_write (write w))) notes (is.1 no_read))
+told_cause command held W CannotWrite status out out' line line' b n b' n' status_is is write nothing notes no_read no_write = absurd (no_write (write refl))
+told_cause command held W OutOfMemory status out out' line line' b n b' n' status_is is write nothing notes no_read no_write = inl status_is
+
+pub told : (files : Files) (command : Option Command) (WriteFailed : Type 0) (cause : Note) (status : Status)
+    (out out' line line' : Option (List ℕ)) (before now before' now' : ℕ)
+    → status ≡ status_of cause → IsCause cause command files before' now' → (cause ≡ CannotWrite → WriteFailed)
+    → (cause ≢ CannotWrite → out' ≡ out) → Notes line line' before now (note_text cause)
+    → IfSome files (λ held. ¬ Rose before' now' → ¬ WriteFailed
+    → (status ≡ NoMemory) ⊎ EndsAsTold command held status out out' line line' before now)
+told None command W cause status out out' line line' b n b' n' status_is is write nothing notes = tt
+told (Some held) command W cause status out out' line line' b n b' n' status_is is write nothing notes = λ no_read no_write.
+    told_cause command held W cause status out out' line line' b n b' n' status_is is write nothing notes no_read no_write

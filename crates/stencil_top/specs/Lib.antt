@@ -2,4 +2,4 @@ pub mod Words
 pub mod Status
 pub mod Note
 pub mod Outcome
-pub mod Serial
+pub mod Run

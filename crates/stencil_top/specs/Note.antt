@@ -1,29 +1,76 @@
 -- What a run notes about the way it ends.
 use Rattle.std.specs.Prelude.{ℕ, codes, List, [], ◌∷◌, ◌++◌, Option}
+use Rattle.std.specs.Fmt.{decimal}
 use Rattle.part_io.specs.Causes.{Rose}
 use Rattle.part_io.specs.Sink.{Adds, AddsFront}
+use Rattle.grid_text.specs.declared.fault.TextFault.{TextFault}
+use Rattle.grid_text.specs.declared.fault.TextFault.TheVariants as text_fault
+use Rattle.script_text.specs.declared.fault.ScriptFault.{ScriptFault}
+use Rattle.script_text.specs.declared.fault.ScriptFault.TheVariants as script_fault
 use Rattle.stencil_top.specs.declared.status.Status.{Status}
 use Rattle.stencil_top.specs.declared.status.Status.TheVariants as status
+use Rattle.stencil_top.specs.declared.note.TextName.{TextName}
+use Rattle.stencil_top.specs.declared.note.TextName.TheVariants as text
 use Rattle.stencil_top.specs.declared.note.Note.{Note}
-use Rattle.stencil_top.specs.declared.note.Note.TheVariants.{Usage, TooLong, NotBuilt, CannotRead, CannotWrite, OutOfMemory}
+use Rattle.stencil_top.specs.declared.note.Note.TheVariants.{Usage, TooLong, BadScript, BadText, CannotRead, CannotWrite, OutOfMemory}
 
 -- the status of a run that ends for this cause
 abbrev pub status_of : Note → Status
 status_of Usage = status.Usage
-status_of TooLong = status.Refused
-status_of NotBuilt = status.Refused
-status_of CannotRead = status.ReadFault
+status_of (TooLong _) = status.Refused
+status_of (BadScript script_fault.NoMemory) = status.NoMemory
+status_of (BadScript _) = status.Refused
+status_of (BadText _ text_fault.NoMemory) = status.NoMemory
+status_of (BadText _ _) = status.Refused
+status_of (CannotRead _) = status.ReadFault
 status_of CannotWrite = status.WriteFault
 status_of OutOfMemory = status.NoMemory
+
+-- how a text is called
+abbrev pub name_of : TextName → List ℕ
+name_of text.Weights = codes "weights"
+name_of text.Grid = codes "grid"
+name_of text.Script = codes "script"
+
+abbrev pub out_of_memory : List ℕ
+out_of_memory = codes "partstencil: out of memory"
+
+-- where a fault of a text is, and which one it is
+abbrev pub at_row : ℕ → List ℕ → List ℕ
+at_row row words = codes " row " ++ decimal row ++ words
+
+abbrev pub at_column : ℕ → ℕ → List ℕ → List ℕ
+at_column row col words = codes " row " ++ decimal row ++ codes " column " ++ decimal col ++ words
+
+abbrev pub text_message : TextName → TextFault → List ℕ
+text_message which text_fault.Empty = codes "partstencil: " ++ name_of which ++ codes ": empty"
+text_message which (text_fault.TooLarge row) = codes "partstencil: " ++ name_of which ++ at_row row (codes ": too large")
+text_message which (text_fault.Ragged row) = codes "partstencil: " ++ name_of which ++ at_row row (codes ": ragged")
+text_message which (text_fault.BadWeights row) = codes "partstencil: " ++ name_of which ++ at_row row (codes ": bad shape")
+text_message which (text_fault.BadNumber row col) = codes "partstencil: " ++ name_of which ++ at_column row col (codes ": bad number")
+text_message which (text_fault.OutOfRange row col) = codes "partstencil: " ++ name_of which ++ at_column row col (codes ": out of range")
+text_message which text_fault.NoMemory = out_of_memory
+
+abbrev pub at_line : ℕ → List ℕ → List ℕ
+at_line line words = codes "partstencil: script line " ++ decimal line ++ words
+
+abbrev pub script_message : ScriptFault → List ℕ
+script_message (script_fault.NoWorld line) = at_line line (codes ": no world")
+script_message (script_fault.BadWorld line) = at_line line (codes ": bad world")
+script_message (script_fault.AfterEnd line) = at_line line (codes ": after end")
+script_message (script_fault.BadLine line) = at_line line (codes ": bad line")
+script_message script_fault.NoEnd = codes "partstencil: script: no end"
+script_message script_fault.NoMemory = out_of_memory
 
 -- the words of a note
 unfoldable pub message_of : Note → List ℕ
 message_of Usage = codes "usage: partstencil stencil OPTIONS | partstencil script FILE"
-message_of TooLong = codes "partstencil: script: too long"
-message_of NotBuilt = codes "partstencil: script: not built yet"
-message_of CannotRead = codes "partstencil: cannot read script"
+message_of (TooLong which) = codes "partstencil: " ++ name_of which ++ codes ": too long"
+message_of (BadScript fault) = script_message fault
+message_of (BadText which fault) = text_message which fault
+message_of (CannotRead which) = codes "partstencil: cannot read " ++ name_of which
 message_of CannotWrite = codes "partstencil: cannot write"
-message_of OutOfMemory = codes "partstencil: out of memory"
+message_of OutOfMemory = out_of_memory
 
 -- the line of a note, with the LF at its end
 abbrev pub note_text : Note → List ℕ

@@ -1,14 +1,119 @@
--- How a run ends whose files are told.
-use Rattle.std.specs.Prelude.{ℕ, nat_lt, if◌then◌else◌, List, [], length, Option, Some, None}
-use Rattle.script_run.specs.Built.{script_of}
+-- How a run ends, by its words and the texts in its files.
+use Rattle.std.specs.Prelude.{◌≡◌, ℕ, nat_lt, if◌then◌else◌, pos, List, [], ◌∷◌, length, Option, Some, None, option_and_then, Result, Ok, Err}
+use Rattle.stencil_def.specs.Plane.{Plane}
+use Rattle.stencil_def.specs.Square.{Square, square_of}
+use Rattle.stencil_def.specs.Step.{fold_plane}
+use Rattle.stencil_def.specs.declared.rule.Rule.{Rule}
+use Rattle.grid_text.specs.Reading.{grid_of, weights_of}
+use Rattle.grid_text.specs.Printing.{grid_text, summary_text}
+use Rattle.grid_text.specs.Making.{made_grid}
+use Rattle.grid_text.specs.declared.fault.TextFault.{TextFault}
+use Rattle.script_text.specs.Script.{script_of}
+use Rattle.script_text.specs.declared.fault.ScriptFault.{ScriptFault}
 use Rattle.script_run.specs.Run.{answers_of}
-use Rattle.script_run.specs.declared.line.Line.{Line}
-use Rattle.stencil_top.specs.Words.{reading}
+use Rattle.stencil_words.specs.declared.words.Size.{Size}
+use Rattle.stencil_words.specs.declared.words.StencilWords.{StencilWords}
+use Rattle.stencil_words.specs.declared.words.Source.{Source}
+use Rattle.stencil_words.specs.declared.words.Source.TheVariants.{Grid, Make}
+use Rattle.stencil_top.specs.Words.{Command, Script, Stencil}
 use Rattle.stencil_top.specs.Note.{status_of, note_text}
 use Rattle.stencil_top.specs.declared.status.Status.{Status}
 use Rattle.stencil_top.specs.declared.status.Status.TheVariants.{Done}
+use Rattle.stencil_top.specs.declared.note.TextName.{TextName}
+use Rattle.stencil_top.specs.declared.note.TextName.TheVariants as text
 use Rattle.stencil_top.specs.declared.note.Note.{Note}
-use Rattle.stencil_top.specs.declared.note.Note.TheVariants.{Usage, TooLong, NotBuilt, CannotRead}
+use Rattle.stencil_top.specs.declared.note.Note.TheVariants.{Usage, TooLong, BadScript, BadText, CannotRead}
+use Rattle.stencil_top.specs.declared.reading.Inputs.{Inputs}
+
+-- the text of each name, where there is one
+abbrev pub Texts : Type 0
+Texts = TextName → Option (List ℕ)
+
+-- how many bytes a text has at most
+abbrev pub limit_of : TextName → ℕ
+limit_of text.Weights = 4096
+limit_of text.Grid = 33554432
+limit_of text.Script = 1048576
+
+-- the second step, where the first gives a value
+infixl 10 ◌>>=◌
+abbrev pub ◌>>=◌ : {A B : Type 0} → Result A Note → (A → Result B Note) → Result B Note
+(Ok x) >>= f = f x
+(Err cause) >>= f = Err cause
+
+-- what the reading of a file gives
+abbrev pub read_of : TextName → Option (List ℕ) → Result (List ℕ) Note
+read_of which None = Err (CannotRead which)
+read_of which (Some text) = if nat_lt (limit_of which) (length text) then Err (TooLong which) else Ok text
+
+-- what a text of weights or of a grid, and what a script reads as
+abbrev pub or_bad_text : {A : Type 0} → TextName → Result A TextFault → Result A Note
+or_bad_text which (Ok x) = Ok x
+or_bad_text which (Err fault) = Err (BadText which fault)
+
+abbrev pub or_bad_script : {A : Type 0} → Result A ScriptFault → Result A Note
+or_bad_script (Ok x) = Ok x
+or_bad_script (Err fault) = Err (BadScript fault)
+
+-- the answers to the script that a text is
+abbrev pub answers_to : List ℕ → Result (List ℕ) Note
+answers_to text = do
+  script ← or_bad_script (script_of text)
+  Ok (answers_of script)
+
+abbrev pub script_output : Texts → Result (List ℕ) Note
+script_output files = do
+  text ← read_of text.Script (files text.Script)
+  answers_to text
+
+-- the weights where no file names others: 1, 2, 1 and 2, 4, 2 and 1, 2, 1, row by row
+abbrev pub default_weights : Square
+default_weights = square_of (pos 1 ∷ pos 2 ∷ pos 1 ∷ pos 2 ∷ pos 4 ∷ pos 2 ∷ pos 1 ∷ pos 2 ∷ pos 1 ∷ [])
+
+-- the grid that the generator makes
+abbrev pub made_of : Size → Plane
+made_of size = made_grid size.seed size.rows size.cols
+
+-- what a stencil begins with, by its texts: of two the weights are looked at first
+abbrev pub inputs_in : List ℕ → List ℕ → Result Inputs Note
+inputs_in weights grid = do
+  square ← or_bad_text text.Weights (weights_of weights)
+  plane ← or_bad_text text.Grid (grid_of grid)
+  Ok record { grid = plane; weights = square }
+
+abbrev pub made_with : Size → List ℕ → Result Inputs Note
+made_with size weights = do
+  square ← or_bad_text text.Weights (weights_of weights)
+  Ok record { grid = made_of size; weights = square }
+
+-- what a stencil begins with: both files are read before either text is looked at, the weights and then the grid
+abbrev pub inputs_of : Source → Texts → Result Inputs Note
+inputs_of (Grid grid weights) files = do
+  weights_text ← read_of text.Weights (files text.Weights)
+  grid_text ← read_of text.Grid (files text.Grid)
+  inputs_in weights_text grid_text
+inputs_of (Make size (Some weights)) files = do
+  weights_text ← read_of text.Weights (files text.Weights)
+  made_with size weights_text
+inputs_of (Make size None) files = Ok record { grid = made_of size; weights = default_weights }
+
+-- the rule that the words give with these weights
+pub record IsRuleOf (w : StencilWords) (weights : Square) (rule : Rule) : Type 0 where
+  pub weights_are : rule.weights ≡ weights
+  pub div_is : rule.div ≡ pos w.div
+  pub edge_is : rule.edge ≡ w.edge
+  pub around_is : rule.around ≡ w.around
+
+-- a grid that was read is printed, and one that was made is summed up
+abbrev pub printed : Source → ℕ → Plane → List ℕ
+printed (Grid grid weights) steps last = grid_text last
+printed (Make size weights) steps last = summary_text last steps
+
+-- the output of a stencil: the grid after the last step of that rule
+pub record IsStencilOutput (w : StencilWords) (inputs : Inputs) (output : List ℕ) : Type 0 where
+  pub rule : Rule
+  pub rule_is : IsRuleOf w inputs.weights rule
+  pub output_is : output ≡ printed w.source w.steps (fold_plane inputs.grid rule w.steps)
 
 -- the status of a run, what it writes to the output, and what it notes
 pub record Outcome : Type 0 where
@@ -24,21 +129,17 @@ answered text = record { status = Done; output = text; note = [] }
 abbrev pub noted : Note → Outcome
 noted cause = record { status = status_of cause; output = []; note = note_text cause }
 
--- what comes of the lines of the script, where the text is one
-abbrev pub lines_outcome : Option (List Line) → Outcome
-lines_outcome (Some lines) = answered (answers_of lines)
-lines_outcome None = noted NotBuilt
+-- an outcome with an output of which this holds, or with the note of the cause
+abbrev pub EndsWith : {A : Type 0} → Result A Note → (A → List ℕ → Type 0) → Outcome → Type 0
+EndsWith (Ok x) IsOutput end = (output : List ℕ) × IsOutput x output × (end ≡ answered output)
+EndsWith (Err cause) IsOutput end = end ≡ noted cause
 
--- what comes of the bytes of the file, where there is one
-abbrev pub file_outcome : Option (List ℕ) → Outcome
-file_outcome (Some text) = if nat_lt 1048576 (length text) then noted TooLong else lines_outcome (script_of text)
-file_outcome None = noted CannotRead
+-- the outcome of a command with these texts, where nothing fails and memory is left; no command is refused by its words
+abbrev pub Ends : Option Command → Texts → Outcome → Type 0
+Ends None files end = end ≡ noted Usage
+Ends (Some (Script name)) files end = EndsWith (script_output files) (λ answers output. output ≡ answers) end
+Ends (Some (Stencil w)) files end = EndsWith (inputs_of w.source files) (IsStencilOutput w) end
 
--- what comes of the name that the words read, where they read one
-abbrev pub name_outcome : Option (List ℕ) → (List ℕ → Option (List ℕ)) → Outcome
-name_outcome (Some name) files = file_outcome (files name)
-name_outcome None files = noted Usage
-
--- what comes of these words over these files, where nothing fails and memory is left
-abbrev pub outcome : List (List ℕ) → (List ℕ → Option (List ℕ)) → Outcome
-outcome words files = name_outcome (reading words) files
+-- the texts in the files of these names
+abbrev pub texts_in : Texts → (List ℕ → Option (List ℕ)) → Texts
+texts_in names held which = option_and_then held (names which)

@@ -3,10 +3,13 @@
 #![tactic(auto)]
 
 mod note;
+mod reading;
 mod serial;
 mod status;
+mod stencil;
+mod words;
 
-pub use note::{Note, line_of, tell};
+pub use note::{Line, Note, TextName, line_of, tell};
 pub use serial::run_serial;
 pub use status::Status;
 

@@ -1,36 +1,53 @@
-//! What a run notes where it ends without its answers.
+//! What a run notes where it ends without its output.
 
-ghost use Rattle.std.specs.Prelude.{◌≡◌, ◌≤◌, length};
-ghost use Rattle.stencil_top.specs.Note.{status_of, message_of, note_text, Notes};
+ghost use Rattle.std.specs.Prelude.{◌≡◌, ◌<◌, ◌≤◌, ◌+◌, ◌++◌, length, codes, decimal};
+ghost use Rattle.stencil_top.specs.Note.{status_of, name_of, at_row, at_column, at_line, text_message, script_message, message_of, note_text, Notes};
 
 use crate::status::Status;
 use arrayvec::ArrayString;
+use grid_text::TextFault;
+use itoa::Buffer;
 use part_io::Sink;
+use script_text::ScriptFault;
 use thiserror::Error;
 
-/// The most bytes of a note, without the LF.
-const MAX_MESSAGE: usize = 99;
-
 /// The most bytes of a line of notes.
-const MAX_LINE: usize = 100;
+const MAX_LINE: usize = 160;
 
-/// Why a run ends without its answers.
+/// A line of notes, which takes no memory.
+pub type Line = ArrayString<MAX_LINE>;
+
+/// A text that a command reads from a file.
+#[derive(Clone, Copy, Debug, PartialEq, Eq)]
+pub enum TextName {
+    /// The weights of a stencil.
+    Weights,
+    /// The grid of a stencil.
+    Grid,
+    /// A script.
+    Script,
+}
+
+/// Why a run ends without its output.
 #[derive(Clone, Copy, Debug, PartialEq, Eq, Error)]
 pub enum Note {
     /// The words are no command line of the program.
     #[error("the words are no command line")]
     Usage,
-    /// The script's file is longer than a script may be.
-    #[error("the script is too long")]
-    TooLong,
-    /// The script's text isn't of the accepted form.
-    #[error("the text is no script")]
-    NotBuilt,
-    /// The script's file could not be read, or isn't there.
-    #[error("the script could not be read")]
-    CannotRead,
-    /// The answers could not be written, or not all of them.
-    #[error("the answers could not be written")]
+    /// The file is longer than such a text may be.
+    #[error("the text is too long")]
+    TooLong(TextName),
+    /// The script's text is refused.
+    #[error("the script is refused")]
+    BadScript(ScriptFault),
+    /// The text of a grid or of weights is refused.
+    #[error("the text is refused")]
+    BadText(TextName, TextFault),
+    /// The file could not be read, or isn't there.
+    #[error("the file could not be read")]
+    CannotRead(TextName),
+    /// The output could not be written, or not all of it.
+    #[error("the output could not be written")]
     CannotWrite,
     /// Memory ran out.
     #[error("out of memory")]
@@ -44,36 +61,161 @@ impl Note {
     {
         match self {
             Note::Usage => Status::Usage,
-            Note::TooLong | Note::NotBuilt => Status::Refused,
-            Note::CannotRead => Status::ReadFault,
+            Note::BadScript(ScriptFault::NoMemory)
+            | Note::BadText(_, TextFault::NoMemory)
+            | Note::OutOfMemory => Status::NoMemory,
+            Note::TooLong(_) | Note::BadScript(_) | Note::BadText(_, _) => Status::Refused,
+            Note::CannotRead(_) => Status::ReadFault,
             Note::CannotWrite => Status::WriteFault,
-            Note::OutOfMemory => Status::NoMemory,
         }
     }
 }
 
+/// How a text is called.
+fn name(text: TextName) -> &'static str
+    ensures words { result.now ≡ name_of text }
+    ensures short { length result.now ≤ 7 }
+{
+    match text {
+        TextName::Weights => "weights",
+        TextName::Grid => "grid",
+        TextName::Script => "script",
+    }
+}
+
+/// Appends a number.
+fn push_number(line: &mut Line, n: u32)
+    requires room { length line.old.bytes + 10 ≤ MAX_LINE }
+    ensures digits { line.new.bytes ≡ line.old.bytes ++ decimal n }
+    ensures more { length line.new.bytes ≤ length line.old.bytes + 10 }
+{
+    let mut buffer = Buffer::new();
+    line.push_str(buffer.format(n));
+}
+
+/// Appends where a row is, and what is wrong there.
+fn push_row(line: &mut Line, row: u32, words: &str)
+    requires room { length line.old.bytes ≤ 40 }
+    requires short { length words.now ≤ 20 }
+    ensures words { line.new.bytes ≡ line.old.bytes ++ at_row row words.now }
+    ensures short { length line.new.bytes ≤ 100 }
+{
+    line.push_str(" row ");
+    push_number(line, row);
+    line.push_str(words);
+}
+
+/// Appends where a row and a column are, and what is wrong there.
+fn push_column(line: &mut Line, row: u32, col: u32, words: &str)
+    requires room { length line.old.bytes ≤ 40 }
+    requires short { length words.now ≤ 20 }
+    ensures words { line.new.bytes ≡ line.old.bytes ++ at_column row col words.now }
+    ensures short { length line.new.bytes ≤ 100 }
+{
+    line.push_str(" row ");
+    push_number(line, row);
+    line.push_str(" column ");
+    push_number(line, col);
+    line.push_str(words);
+}
+
+/// The words of a fault of a grid or of weights.
+fn text_line(text: TextName, fault: TextFault) -> Line
+    ensures words { result.bytes ≡ text_message text fault }
+    ensures short { length result.bytes < MAX_LINE }
+{
+    let mut line = ArrayString::new();
+    line.push_str("partstencil: ");
+    line.push_str(name(text));
+    match fault {
+        TextFault::Empty => line.push_str(": empty"),
+        TextFault::TooLarge { row } => push_row(&mut line, row, ": too large"),
+        TextFault::Ragged { row } => push_row(&mut line, row, ": ragged"),
+        TextFault::BadWeights { row } => push_row(&mut line, row, ": bad shape"),
+        TextFault::BadNumber { row, col } => push_column(&mut line, row, col, ": bad number"),
+        TextFault::OutOfRange { row, col } => push_column(&mut line, row, col, ": out of range"),
+        TextFault::NoMemory => {
+            line = ArrayString::new();
+            line.push_str("partstencil: out of memory");
+        }
+    }
+    line
+}
+
+/// The words of a fault in a line of a script.
+fn script_line_fault(number: u32, words: &str) -> Line
+    requires short { length words.now ≤ 20 }
+    ensures words { result.bytes ≡ at_line number words.now }
+    ensures short { length result.bytes < MAX_LINE }
+{
+    let mut line = ArrayString::new();
+    line.push_str("partstencil: script line ");
+    push_number(&mut line, number);
+    line.push_str(words);
+    line
+}
+
+/// A line of plain words.
+fn plain_line(words: &str) -> Line
+    requires { length words.now < MAX_LINE }
+    ensures { result.bytes ≡ words.now }
+{
+    let mut line = ArrayString::new();
+    line.push_str(words);
+    line
+}
+
+/// The words of a fault of a script.
+fn script_line(fault: ScriptFault) -> Line
+    ensures words { result.bytes ≡ script_message fault }
+    ensures short { length result.bytes < MAX_LINE }
+{
+    match fault {
+        ScriptFault::NoWorld { line } => script_line_fault(line, ": no world"),
+        ScriptFault::BadWorld { line } => script_line_fault(line, ": bad world"),
+        ScriptFault::AfterEnd { line } => script_line_fault(line, ": after end"),
+        ScriptFault::BadLine { line } => script_line_fault(line, ": bad line"),
+        ScriptFault::NoEnd => plain_line("partstencil: script: no end"),
+        ScriptFault::NoMemory => plain_line("partstencil: out of memory"),
+    }
+}
+
+/// The words of a note about a whole file.
+fn file_line(front: &str, text: TextName, end: &str) -> Line
+    requires front { length front.now ≤ 30 }
+    requires end { length end.now ≤ 30 }
+    ensures words { result.bytes ≡ front.now ++ name_of text ++ end.now }
+    ensures short { length result.bytes < MAX_LINE }
+{
+    let mut line = ArrayString::new();
+    line.push_str(front);
+    line.push_str(name(text));
+    line.push_str(end);
+    line
+}
+
 /// The words of a note.
 #[tactic(auto, unfolding(crate::specs::Note::message_of))]
-fn message(note: Note) -> &'static str
-    ensures words { result.now ≡ message_of note }
-    ensures short { length result.now ≤ MAX_MESSAGE }
+fn message(note: Note) -> Line
+    ensures words { result.bytes ≡ message_of note }
+    ensures short { length result.bytes < MAX_LINE }
 {
     match note {
-        Note::Usage => "usage: partstencil stencil OPTIONS | partstencil script FILE",
-        Note::TooLong => "partstencil: script: too long",
-        Note::NotBuilt => "partstencil: script: not built yet",
-        Note::CannotRead => "partstencil: cannot read script",
-        Note::CannotWrite => "partstencil: cannot write",
-        Note::OutOfMemory => "partstencil: out of memory",
+        Note::Usage => plain_line("usage: partstencil stencil OPTIONS | partstencil script FILE"),
+        Note::TooLong(text) => file_line("partstencil: ", text, ": too long"),
+        Note::BadScript(fault) => script_line(fault),
+        Note::BadText(text, fault) => text_line(text, fault),
+        Note::CannotRead(text) => file_line("partstencil: cannot read ", text, ""),
+        Note::CannotWrite => plain_line("partstencil: cannot write"),
+        Note::OutOfMemory => plain_line("partstencil: out of memory"),
     }
 }
 
 /// The line of a note, with the LF at its end. It takes no memory.
-pub fn line_of(note: Note) -> ArrayString<MAX_LINE>
+pub fn line_of(note: Note) -> Line
     ensures { result.bytes ≡ note_text note }
 {
-    let mut line = ArrayString::new();
-    line.push_str(message(note));
+    let mut line = message(note);
     line.push_str("\n");
     line
 }

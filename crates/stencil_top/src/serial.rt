@@ -1,70 +1,36 @@
 //! One run, from its words to its status.
 
-ghost use Rattle.std.specs.Prelude.{◌≡◌, ◌≢◌, ◌≤◌, ◌⊎◌, ◌↔◌, length, None, IfSome, IsSomeAnd, IfErr, OnOk, option_copied};
+ghost use Rattle.std.specs.Prelude.{◌≡◌, ◌≢◌, ◌≤◌, ◌⊎◌, length, Some, None, Err, IfSome, IfErr, OnOk};
 ghost use Rattle.part_io.specs.Causes.{Rose, HasCause};
 ghost use Rattle.part_io.specs.Sink.{Adds, AddsFront, Writes};
-ghost use Rattle.stencil_top.specs.Words.{texts, is_file_name, reading};
+ghost use Rattle.stencil_words.specs.Limits.{IsRead};
+ghost use Rattle.stencil_top.specs.Words.{Script, Stencil, command_of, file_of, texts};
 ghost use Rattle.stencil_top.specs.Note.{status_of, note_text, Notes};
-ghost use Rattle.stencil_top.specs.Outcome.{outcome};
+ghost use Rattle.stencil_top.specs.Outcome.{answers_to};
 ghost use Rattle.stencil_top.specs.declared.note.Note.{Note};
-ghost use Rattle.stencil_top.specs.Serial.{HasFile, LacksFile, HasAnswers, IsTooLong, IsNotBuilt, IsCause, ReadsText, RunsText, IsOutcome};
+ghost use Rattle.stencil_top.specs.declared.note.TextName.{TextName};
+ghost use Rattle.stencil_top.specs.Run.{EndsAsTold, Explains, Gives, IsCause, IsUnread, KeepsCount, RunsScript};
 
-use crate::note::{self, Note};
+use crate::note::{self, Note, TextName};
+use crate::reading::{read_inputs, read_text};
 use crate::status::Status;
-use part_io::{ReadAnswer, Shelf, Sink};
-use script_run::{ScriptFault, parse_script, run_script};
+use crate::stencil::stencil_output;
+use crate::words::script_name;
+use part_io::{Shelf, Sink};
+use script_run::run_script;
+use script_text::{ScriptFault, parse_script};
 use std::alloc::Global;
-
-/// The most bytes of a script's file.
-const MAX_SCRIPT: u32 = 1_048_576;
-
-/// Whether a word may name a file: it isn't empty, and doesn't begin with `-`.
-fn is_file_name(word: &str) -> bool
-    ensures { result ≡ is_file_name word.now }
-{
-    match word.as_bytes() {
-        [] => false,
-        [first, ..] => *first != b'-',
-    }
-}
-
-/// The name of the script's file, where the words read.
-fn file_name(words: &Vec<String>) -> Option<&str>
-    ensures { option_copied result ≡ reading (texts words.now) }
-{
-    match words.as_slice() {
-        [command, name] if command.as_str() == "script" && is_file_name(name.as_str()) => {
-            Some(name.as_str())
-        }
-        _ => None,
-    }
-}
-
-/// The text of the script's file.
-fn read_text<H: Shelf>(alloc: Global, name: &str, shelf: &mut H) -> Result<Vec<u8>, Note>
-    ensures text { ReadsText (H.files shelf.old) name.now
-        (H.faults shelf.old) (H.faults shelf.new) result }
-    ensures files { H.files shelf.new ≡ H.files shelf.old }
-    ensures later { H.faults shelf.old ≤ H.faults shelf.new }
-    ensures kept { result ≢ Err Note.CannotRead → H.faults shelf.new ≡ H.faults shelf.old }
-{
-    match shelf.read(alloc, name, MAX_SCRIPT) {
-        Ok(text) => Ok(text),
-        Err(ReadAnswer::TooLong { .. }) => Err(Note::TooLong),
-        Err(ReadAnswer::Missing | ReadAnswer::Failed) => Err(Note::CannotRead),
-        Err(ReadAnswer::NoMemory) => Err(Note::OutOfMemory),
-    }
-}
+use stencil_words::{StencilWords, read_words};
 
 /// The answers to the script that a text is.
 fn run_text(alloc: Global, text: &[u8]) -> Result<Vec<u8>, Note>
     requires { length text.now ≤ 1048576 }
-    ensures { RunsText text.now result }
+    ensures { RunsScript (answers_to text.now) result }
 {
     let script = match parse_script(alloc, text) {
         Ok(script) => script,
-        Err(ScriptFault::NotBuilt) => return Err(Note::NotBuilt),
         Err(ScriptFault::NoMemory) => return Err(Note::OutOfMemory),
+        Err(fault) => return Err(Note::BadScript(fault)),
     };
     match run_script(alloc, &script) {
         Ok(answers) => Ok(answers),
@@ -72,13 +38,59 @@ fn run_text(alloc: Global, text: &[u8]) -> Result<Vec<u8>, Note>
     }
 }
 
-/// Writes the answers, in one piece.
-fn write_out<K: Sink>(out: &mut K, answers: &[u8]) -> Result<(), Note>
-    ensures adds { Writes (K.written out.old) (K.written out.new) answers.now result }
+/// The output of a script.
+fn script<H: Shelf>(alloc: Global, name: &str, shelf: &mut H) -> Result<Vec<u8>, Note>
+    ensures gives { Gives (Some (Script name.now)) (H.files shelf.old)
+        (H.faults shelf.old) (H.faults shelf.new) result }
+    ensures files { H.files shelf.new ≡ H.files shelf.old }
+    ensures later { H.faults shelf.old ≤ H.faults shelf.new }
+    ensures kept { KeepsCount (H.faults shelf.old) (H.faults shelf.new) result }
+{
+    let text = read_text(alloc, TextName::Script, name, shelf)?;
+    run_text(alloc, &text)
+}
+
+/// The output of a stencil.
+fn stencil<H: Shelf>(alloc: Global, words: &StencilWords, shelf: &mut H) -> Result<Vec<u8>, Note>
+    requires { IsRead words.now }
+    ensures gives { Gives (Some (Stencil words.now)) (H.files shelf.old)
+        (H.faults shelf.old) (H.faults shelf.new) result }
+    ensures files { H.files shelf.new ≡ H.files shelf.old }
+    ensures later { H.faults shelf.old ≤ H.faults shelf.new }
+    ensures kept { KeepsCount (H.faults shelf.old) (H.faults shelf.new) result }
+{
+    let inputs = read_inputs(alloc, &words.source, shelf)?;
+    match stencil_output(alloc, words, &inputs) {
+        Ok(output) => Ok(output),
+        Err(_) => Err(Note::OutOfMemory),
+    }
+}
+
+/// The output of what the words ask for.
+fn output<H: Shelf>(alloc: Global, words: &Vec<String>, shelf: &mut H) -> Result<Vec<u8>, Note>
+    ensures gives { Gives (command_of (texts words.now)) (H.files shelf.old)
+        (H.faults shelf.old) (H.faults shelf.new) result }
+    ensures files { H.files shelf.new ≡ H.files shelf.old }
+    ensures later { H.faults shelf.old ≤ H.faults shelf.new }
+    ensures kept { KeepsCount (H.faults shelf.old) (H.faults shelf.new) result }
+{
+    if let Some(name) = script_name(words) {
+        return script(alloc, name, shelf);
+    }
+    match read_words(alloc, words) {
+        Ok(Some(words)) => stencil(alloc, &words, shelf),
+        Ok(None) => Err(Note::Usage),
+        Err(_) => Err(Note::OutOfMemory),
+    }
+}
+
+/// Writes an output, in one piece.
+fn write_out<K: Sink>(out: &mut K, output: &[u8]) -> Result<(), Note>
+    ensures adds { Writes (K.written out.old) (K.written out.new) output.now result }
     ensures cause { HasCause (K.faults out.old) (K.faults out.new) result }
     ensures error { IfErr result (λ cause. cause ≡ Note.CannotWrite) }
 {
-    match out.write(answers) {
+    match out.write(output) {
         Ok(()) => Ok(()),
         Err(_) => Err(Note::CannotWrite),
     }
@@ -91,13 +103,12 @@ fn answer<H: Shelf, K: Sink>(
     shelf: &mut H,
     out: &mut K,
 ) -> Result<(), Note>
-    ensures done { OnOk result (HasAnswers (texts words.now) (H.files shelf.old)
-        (Adds (K.written out.old) (K.written out.new))) }
-    ensures cause { IfErr result (λ cause. IsCause cause (texts words.now) (H.files shelf.old)) }
-    ensures read { result ≡ Err Note.CannotRead → IsSomeAnd (reading (texts words.now)) (λ name.
-        Rose (H.faults shelf.old) (H.faults shelf.new) ⊎ LacksFile (H.files shelf.old) name) }
-    ensures write { result ≡ Err Note.CannotWrite → HasAnswers (texts words.now) (H.files shelf.old)
-        (AddsFront (K.written out.old) (K.written out.new)) }
+    ensures done { OnOk result (Explains (command_of (texts words.now)) (H.files shelf.old)
+        (λ end. (end.status ≡ Status.Done) × Adds (K.written out.old) (K.written out.new) end.output)) }
+    ensures cause { IfErr result (λ cause. IsCause cause (command_of (texts words.now))
+        (H.files shelf.old) (H.faults shelf.old) (H.faults shelf.new)) }
+    ensures write { result ≡ Err Note.CannotWrite → Explains (command_of (texts words.now)) (H.files shelf.old)
+        (λ end. (end.status ≡ Status.Done) × AddsFront (K.written out.old) (K.written out.new) end.output) }
     ensures write_count { result ≡ Err Note.CannotWrite →
         Rose (K.faults out.old) (K.faults out.new) }
     ensures nothing { IfErr result (λ cause. cause ≢ Note.CannotWrite →
@@ -106,22 +117,19 @@ fn answer<H: Shelf, K: Sink>(
     // Files and counts.
     ensures files { H.files shelf.new ≡ H.files shelf.old }
     ensures shelf_later { H.faults shelf.old ≤ H.faults shelf.new }
-    ensures shelf_kept { result ≢ Err Note.CannotRead → H.faults shelf.new ≡ H.faults shelf.old }
+    ensures shelf_kept { KeepsCount (H.faults shelf.old) (H.faults shelf.new) result }
     ensures out_later { K.faults out.old ≤ K.faults out.new }
     ensures out_kept { result ≢ Err Note.CannotWrite → K.faults out.new ≡ K.faults out.old }
 {
-    let Some(name) = file_name(words) else {
-        return Err(Note::Usage);
-    };
-    let text = read_text(alloc, name, shelf)?;
-    let answers = run_text(alloc, &text)?;
-    write_out(out, &answers)
+    let output = output(alloc, words, shelf)?;
+    write_out(out, &output)
 }
 
 /// Runs what the words ask for, and gives the status that the run ends with.
 ///
-/// The script's file is read from `shelf`, its answers go to `out`, and where the run ends without
-/// them a line goes to `note`. `NoMemory` may be the end of any run whose words read.
+/// The words are `script FILE`, or `stencil` and its options. The texts are read from `shelf`: a script; or the
+/// weights, where a file is named, and then the grid. The output goes to `out` in one piece, and where the run ends
+/// without it a line goes to `note`. `NoMemory` may be the end of any run.
 pub fn run_serial<H: Shelf, K: Sink, N: Sink>(
     alloc: Global,
     words: &Vec<String>,
@@ -129,26 +137,29 @@ pub fn run_serial<H: Shelf, K: Sink, N: Sink>(
     out: &mut K,
     note: &mut N,
 ) -> Status
-    ensures usage { (result ≡ Status.Usage) ↔ (reading (texts words.now) ≡ None) }
+    ensures usage { result ≡ Status.Usage → command_of (texts words.now) ≡ None }
+    ensures no_command { command_of (texts words.now) ≡ None →
+        (result ≡ Status.Usage) ⊎ (result ≡ Status.NoMemory) }
 
-    // Where the files are told and nothing failed, there is one outcome beside a lack of memory.
-    ensures told { IfSome (H.files shelf.old) (λ files.
+    // Where the files are told and nothing failed, the outcome is the command's, or memory ran out.
+    ensures told { IfSome (H.files shelf.old) (λ held.
         ¬ Rose (H.faults shelf.old) (H.faults shelf.new)
         → ¬ Rose (K.faults out.old) (K.faults out.new)
-        → (result ≡ Status.NoMemory) ⊎ IsOutcome (outcome (texts words.now) files) result
+        → (result ≡ Status.NoMemory) ⊎ EndsAsTold (command_of (texts words.now)) held result
         (K.written out.old) (K.written out.new) (N.written note.old) (N.written note.new)
         (N.faults note.old) (N.faults note.new)) }
 
     // What each status says.
-    ensures done { result ≡ Status.Done → HasAnswers (texts words.now) (H.files shelf.old)
-        (Adds (K.written out.old) (K.written out.new)) }
-    ensures refused { result ≡ Status.Refused → IsSomeAnd (reading (texts words.now)) (λ name.
-        HasFile (H.files shelf.old) name (λ text. IsTooLong text ⊎ IsNotBuilt text)) }
-    ensures read_fault { result ≡ Status.ReadFault → IsSomeAnd (reading (texts words.now)) (λ name.
-        Rose (H.faults shelf.old) (H.faults shelf.new) ⊎ LacksFile (H.files shelf.old) name) }
+    ensures done { result ≡ Status.Done → Explains (command_of (texts words.now)) (H.files shelf.old)
+        (λ end. (end.status ≡ Status.Done) × Adds (K.written out.old) (K.written out.new) end.output) }
+    ensures refused { result ≡ Status.Refused → Explains (command_of (texts words.now)) (H.files shelf.old)
+        (λ end. end.status ≡ Status.Refused) }
+    ensures read_fault { result ≡ Status.ReadFault → (which : TextName) ×
+        IsUnread (file_of (command_of (texts words.now))) (H.files shelf.old)
+        (H.faults shelf.old) (H.faults shelf.new) which }
     ensures write_fault { result ≡ Status.WriteFault →
-        HasAnswers (texts words.now) (H.files shelf.old)
-        (AddsFront (K.written out.old) (K.written out.new)) }
+        Explains (command_of (texts words.now)) (H.files shelf.old)
+        (λ end. (end.status ≡ Status.Done) × AddsFront (K.written out.old) (K.written out.new) end.output) }
     ensures write_count { result ≡ Status.WriteFault → Rose (K.faults out.old) (K.faults out.new) }
     ensures nothing { result ≢ Status.Done → result ≢ Status.WriteFault →
         K.written out.new ≡ K.written out.old }
@@ -156,7 +167,8 @@ pub fn run_serial<H: Shelf, K: Sink, N: Sink>(
     // What is noted: with `Done` nothing, else the line of the cause.
     ensures quiet { result ≡ Status.Done → N.written note.new ≡ N.written note.old }
     ensures note { result ≢ Status.Done → (cause : Note) × (result ≡ status_of cause)
-        × IsCause cause (texts words.now) (H.files shelf.old)
+        × IsCause cause (command_of (texts words.now)) (H.files shelf.old)
+        (H.faults shelf.old) (H.faults shelf.new)
         × Notes (N.written note.old) (N.written note.new)
         (N.faults note.old) (N.faults note.new) (note_text cause) }
 

@@ -5,15 +5,15 @@ ghost use Rattle.std.specs.Prelude.{◌≡◌};
 /// How a run ends.
 #[derive(Clone, Copy, Debug, PartialEq, Eq)]
 pub enum Status {
-    /// The answers are written.
+    /// The output is written.
     Done,
     /// The words are no command line of the program.
     Usage,
-    /// The script's text is refused.
+    /// A text is refused.
     Refused,
-    /// The script could not be read.
+    /// A file could not be read.
     ReadFault,
-    /// The answers could not be written, or not all of them.
+    /// The output could not be written, or not all of it.
     WriteFault,
     /// Memory ran out.
     NoMemory,

@@ -5,8 +5,7 @@ use part_io::{SteadyShelf, SteadySink};
 use std::alloc::{AllocError, Global};
 use std::test::*;
 
-const FIRST: &[u8] =
-    b"world 2 1 1\nsend a 0 1 7 0 3 4\nrecv b 0 1 7 0 2 6\nstart a\nstart b\nend\n";
+const USAGE: &str = "usage: partstencil stencil OPTIONS | partstencil script FILE\n";
 
 /// The words of a command line.
 fn words(alloc: Global, texts: &[&str]) -> Result<Vec<String>, AllocError> {
@@ -17,46 +16,91 @@ fn words(alloc: Global, texts: &[&str]) -> Result<Vec<String>, AllocError> {
     Ok(words)
 }
 
-/// A shelf with the first script, and with a text that is none.
+/// A shelf with a grid and weights, a grid without rows, and a script.
 fn shelf(alloc: Global) -> Result<SteadyShelf, Fail> {
     let mut shelf = SteadyShelf::new(alloc);
-    shelf.put("first.txt", FIRST)?;
-    shelf.put("other.txt", b"test a\nend\n")?;
+    shelf.put("g.csv", b"0,0,0\n0,1,0\n0,0,0\n")?;
+    shelf.put("w.csv", b"0,1,0\n1,0,1\n0,1,0\n")?;
+    shelf.put("empty.csv", b"")?;
+    shelf.put(
+        "first.txt",
+        b"world 2 1 1\nsend a 0 1 7 0 3 4\nrecv b 0 1 7 0 2 6\nend\n",
+    )?;
     Ok(shelf)
 }
 
 #[test]
-fn runs_without_answers_note_why(rt: HostRuntime) -> Result<(), Fail> {
+fn outputs_are_written(rt: HostRuntime) -> Result<(), Fail> {
     let alloc = rt.alloc();
-    let usage = "usage: partstencil stencil OPTIONS | partstencil script FILE\n";
-    let runs: [(&[&str], Status, &str); 7] = [
-        (&[], Status::Usage, usage),
-        (&["--help"], Status::Usage, usage),
-        (&["stencil", "first.txt"], Status::Usage, usage),
-        (&["script", "-first.txt"], Status::Usage, usage),
-        (&["script", "first.txt", "first.txt"], Status::Usage, usage),
+    let files = ["stencil", "--grid", "g.csv", "--weights=w.csv", "--steps=2"];
+    let runs: [(&[&str], &str); 5] = [
+        (&files[..4], "0,1,0\n1,0,1\n0,1,0\n"),
+        (&files, "2,0,2\n0,4,0\n2,0,2\n"),
+        (
+            &["stencil", "--steps=0", "--weights=w.csv", "--grid=g.csv"],
+            "0,0,0\n0,1,0\n0,0,0\n",
+        ),
+        (
+            &["stencil", "--make", "1,2,2", "--steps", "0"],
+            "grid 2 2 steps 0\nsum -10\nmin -8\nmax 7\ncheck -5\n",
+        ),
+        (
+            &["script", "first.txt"],
+            "ok\nok\nok\npair a b started 0 0 released 0 pieces 0\n",
+        ),
+    ];
+    let mut shelf = shelf(alloc)?;
+    for (texts, output) in runs {
+        let mut out = SteadySink::new(alloc, 100)?;
+        let mut note = SteadySink::new(alloc, 0)?;
+        let words = words(alloc, texts)?;
+        let ended = run_serial(alloc, &words, &mut shelf, &mut out, &mut note);
+        assert_eq!(rt; ended, Status::Done);
+        assert_eq!(rt; out.bytes(), output.as_bytes());
+    }
+    Ok(())
+}
+
+#[test]
+fn runs_without_output_note_why(rt: HostRuntime) -> Result<(), Fail> {
+    let alloc = rt.alloc();
+    let runs: [(&[&str], Status, &str); 9] = [
+        (&[], Status::Usage, USAGE),
+        (&["--help"], Status::Usage, USAGE),
+        (&["stencil"], Status::Usage, USAGE),
+        (
+            &["stencil", "--make", "1,2,2", "--steps", "10001"],
+            Status::Usage,
+            USAGE,
+        ),
+        (
+            &["stencil", "--make", "1,2,2", "--edge", "-5"],
+            Status::Usage,
+            USAGE,
+        ),
+        (&["script", "-first.txt"], Status::Usage, USAGE),
         (
             &["script", "missing.txt"],
             Status::ReadFault,
             "partstencil: cannot read script\n",
         ),
         (
-            &["script", "other.txt"],
+            &["stencil", "--grid=missing.csv", "--weights=missing.csv"],
+            Status::ReadFault,
+            "partstencil: cannot read weights\n",
+        ),
+        (
+            &["stencil", "--grid=empty.csv", "--weights=w.csv"],
             Status::Refused,
-            "partstencil: script: not built yet\n",
+            "partstencil: grid: empty\n",
         ),
     ];
     let mut shelf = shelf(alloc)?;
     for (texts, status, line) in runs {
         let mut out = SteadySink::new(alloc, 100)?;
         let mut note = SteadySink::new(alloc, 100)?;
-        let ended = run_serial(
-            alloc,
-            &words(alloc, texts)?,
-            &mut shelf,
-            &mut out,
-            &mut note,
-        );
+        let words = words(alloc, texts)?;
+        let ended = run_serial(alloc, &words, &mut shelf, &mut out, &mut note);
         assert_eq!(rt; ended, status);
         assert_eq!(rt; out.bytes(), b"".as_slice());
         assert_eq!(rt; note.bytes(), line.as_bytes());
@@ -65,10 +109,15 @@ fn runs_without_answers_note_why(rt: HostRuntime) -> Result<(), Fail> {
 }
 
 #[test]
-fn a_note_that_does_not_fit_changes_no_status(rt: HostRuntime) -> Result<(), Fail> {
-    let mut note = SteadySink::new(rt.alloc(), 6)?;
-    assert_eq!(rt; tell(&mut note, Note::Usage), Status::Usage);
-    assert_eq!(rt; note.bytes(), b"usage:".as_slice());
+fn an_output_that_does_not_fit_is_noted(rt: HostRuntime) -> Result<(), Fail> {
+    let alloc = rt.alloc();
+    let mut out = SteadySink::new(alloc, 8)?;
+    let mut note = SteadySink::new(alloc, 12)?;
+    let words = words(alloc, &["stencil", "--make=1,2,2"])?;
+    let ended = run_serial(alloc, &words, &mut shelf(alloc)?, &mut out, &mut note);
+    assert_eq!(rt; ended, Status::WriteFault);
+    assert_eq!(rt; out.bytes(), b"grid 2 2".as_slice());
+    assert_eq!(rt; note.bytes(), b"partstencil:".as_slice());
     Ok(())
 }
 
@@ -76,9 +125,8 @@ fn a_note_that_does_not_fit_changes_no_status(rt: HostRuntime) -> Result<(), Fai
 fn statuses_have_numbers(rt: HostRuntime) {
     let statuses = [
         (Note::Usage, 2),
-        (Note::TooLong, 3),
-        (Note::NotBuilt, 3),
-        (Note::CannotRead, 4),
+        (Note::TooLong(TextName::Grid), 3),
+        (Note::CannotRead(TextName::Script), 4),
         (Note::CannotWrite, 5),
         (Note::OutOfMemory, 6),
     ];

@@ -1,0 +1,58 @@
+//! The output of a stencil.
+
+ghost use Rattle.std.specs.Prelude.{◌≡◌, IfOk};
+ghost use Rattle.stencil_def.specs.Plane.{IsPlane};
+ghost use Rattle.stencil_def.specs.Step.{fold_plane};
+ghost use Rattle.stencil_words.specs.Limits.{IsRead};
+ghost use Rattle.stencil_top.specs.Outcome.{IsRuleOf, IsStencilOutput, printed};
+
+use crate::reading::Inputs;
+use grid_text::{print_grid, print_summary};
+use std::alloc::{AllocError, Global};
+use stencil_def::{Grid, Rule, Weights, run_plain};
+use stencil_words::{Source, StencilWords};
+
+/// The rule that the words give with these weights.
+fn rule_of(words: &StencilWords, weights: Weights) -> Rule
+    requires { IsRead words.now }
+    ensures { IsRuleOf words.now weights result }
+{
+    Rule {
+        weights,
+        div: i64::from(words.div),
+        edge: words.edge,
+        around: words.around,
+    }
+}
+
+/// The grid after this many steps of the rule.
+fn run(alloc: Global, grid: &Grid, rule: &Rule, steps: u32) -> Result<Grid, AllocError>
+    ensures fold { IfOk result (λ last. last ≡ fold_plane grid.now rule.now steps) }
+    ensures limits { IfOk result IsPlane }
+{
+    run_plain(alloc, grid, rule, steps)
+}
+
+/// The text of the last grid: that of a grid from a file is the grid, and that of a made one is the summary.
+fn print(alloc: Global, source: &Source, steps: u32, last: &Grid) -> Result<Vec<u8>, AllocError>
+    ensures { IfOk result (λ text. text.items ≡ printed source.now steps last.now) }
+{
+    match source {
+        Source::Grid { .. } => print_grid(alloc, last),
+        Source::Make { .. } => print_summary(alloc, last, steps),
+    }
+}
+
+/// The output of a stencil.
+pub(crate) fn stencil_output(
+    alloc: Global,
+    words: &StencilWords,
+    inputs: &Inputs,
+) -> Result<Vec<u8>, AllocError>
+    requires { IsRead words.now }
+    ensures { IfOk result (λ text. IsStencilOutput words.now inputs.now text.items) }
+{
+    let rule = rule_of(words, inputs.weights);
+    let last = run(alloc, &inputs.grid, &rule, words.steps)?;
+    print(alloc, &words.source, words.steps, &last)
+}
