@@ -7,9 +7,10 @@ ghost use Rattle.stencil_words.specs.Limits.{IsRead};
 ghost use Rattle.stencil_top.specs.Outcome.{IsRuleOf, IsStencilOutput, printed};
 
 use crate::reading::Inputs;
+use cell_lanes::run_lanes;
 use grid_text::{print_grid, print_summary};
 use std::alloc::{AllocError, Global};
-use stencil_def::{Grid, Rule, Weights, run_plain};
+use stencil_def::{Grid, Rule, Weights};
 use stencil_words::{Source, StencilWords};
 
 /// The rule that the words give with these weights.
@@ -30,7 +31,7 @@ fn run(alloc: Global, grid: &Grid, rule: &Rule, steps: u32) -> Result<Grid, Allo
     ensures fold { IfOk result (λ last. last ≡ fold_plane grid.now rule.now steps) }
     ensures limits { IfOk result IsPlane }
 {
-    run_plain(alloc, grid, rule, steps)
+    run_lanes(alloc, grid, rule, steps)
 }
 
 /// The text of the last grid: that of a grid from a file is the grid, and that of a made one is the summary.
