@@ -10,7 +10,7 @@ use Rattle.init_match.specs.declared.answers.InitFault.TheVariants.{NoMemory, Wo
 use Rattle.init_match.specs.declared.answers.Matched.{Matched}
 use Rattle.init_match.specs.Calls.{total}
 use Rattle.init_match.specs.Matching.{completed_by, pairs_of}
-use Rattle.init_match.specs.World.{Calls, matched_as, matched_pairs, send_call, recv_call, number_fault, size_fault, volume}
+use Rattle.init_match.specs.World.{WorldState, matched_as, matched_pairs, send_call, recv_call, number_fault, size_fault, volume}
 use Rattle.part_api.specs.declared.request.Side.{Side}
 use Rattle.part_api.specs.declared.request.Side.TheVariants.{SendSide, RecvSide}
 use Rattle.script_text.specs.declared.call.Action.{Action}
@@ -51,7 +51,7 @@ ok_slot None (Some x) t f n slot is = absurd (cc)
 ok_slot None None true f n slot is = absurd (cc)
 ok_slot None None false f n slot is = cc
 
-pub slot_is : (w : Calls) (side : Side) (i : Init) (slot : ℕ) → Ok slot ≡ world_answer w side i → slot ≡ length w.calls
+pub slot_is : (w : WorldState) (side : Side) (i : Init) (slot : ℕ) → Ok slot ≡ world_answer w side i → slot ≡ length w.calls
 slot_is w SendSide i slot is = let c = send_call i.from i.to i.tag i.comm i.parts i.bytes in
     ok_slot (number_fault w.ranks c) (size_fault (completed_by w.calls c)) (nat_lt 67108864 (volume w.calls + total c)) (WorldFull (volume w.calls + total c)) (length w.calls) slot is
 slot_is w RecvSide i slot is = let c = recv_call i.from i.to i.tag i.comm i.parts i.bytes in

@@ -4,7 +4,7 @@ use Rattle.std.specs.List.{filter, flat_map}
 use Rattle.init_match.specs.declared.answers.InitFault.{InitFault}
 use Rattle.init_match.specs.declared.answers.InitFault.TheVariants.{NoMemory}
 use Rattle.init_match.specs.declared.answers.Matched.{Matched}
-use Rattle.init_match.specs.World.{Calls, send_call, recv_call, init_answer, after_init, matched_pairs}
+use Rattle.init_match.specs.World.{WorldState, send_call, recv_call, init_answer, after_init, matched_pairs}
 use Rattle.part_api.specs.declared.request.Side.{Side}
 use Rattle.part_api.specs.declared.request.Side.TheVariants.{SendSide, RecvSide}
 use Rattle.plain_pair.specs.Closing.{closed_answer}
@@ -26,11 +26,11 @@ is_no_memory (Err NoMemory) = true
 is_no_memory _ = false
 
 -- what the world answers to an initialisation, and the world after that answer
-abbrev pub world_answer : Calls → Side → Init → Result ℕ InitFault
+abbrev pub world_answer : WorldState → Side → Init → Result ℕ InitFault
 world_answer w SendSide i = init_answer w (send_call i.from i.to i.tag i.comm i.parts i.bytes)
 world_answer w RecvSide i = init_answer w (recv_call i.from i.to i.tag i.comm i.parts i.bytes)
 
-abbrev pub after_world : Calls → Side → Init → Result ℕ InitFault → Calls
+abbrev pub after_world : WorldState → Side → Init → Result ℕ InitFault → WorldState
 after_world w SendSide i answer = after_init w (send_call i.from i.to i.tag i.comm i.parts i.bytes) answer
 after_world w RecvSide i answer = after_init w (recv_call i.from i.to i.tag i.comm i.parts i.bytes) answer
 

@@ -1,7 +1,7 @@
 -- What a script has made so far.
 use Rattle.std.specs.Prelude.{◌≡◌, ℕ, Bool, true, false, bytes_eq, List, [], length, Option, Some, None}
 use Rattle.std.specs.List.{position_from}
-use Rattle.init_match.specs.World.{Calls}
+use Rattle.init_match.specs.World.{WorldState}
 use Rattle.part_api.specs.declared.request.Side.{Side}
 use Rattle.part_geometry.specs.Shape.{Shape}
 use Rattle.script_pair.specs.Desk.{Desk}
@@ -22,7 +22,7 @@ pub record Pair : Type 0 where
 
 -- the accepted initialisations, their requests in the same order, and the pairs in the order in which they were completed
 pub record State : Type 0 where
-  pub world : Calls
+  pub world : WorldState
   pub requests : List Known
   pub pairs : List Pair
 
