@@ -39,3 +39,4 @@ pub mod StateAdds
 pub mod StateSlots
 pub mod StateClaim
 pub mod StateFirst
+pub mod StateLay

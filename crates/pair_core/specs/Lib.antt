@@ -11,3 +11,4 @@ pub mod Events
 pub mod State
 pub mod Shows
 pub mod Picks
+pub mod Laying

@@ -1,11 +1,13 @@
 //! The core of a pair that many threads use: its state as plain data, and the atomic steps that change it.
 #![tactic(auto)]
 
+mod apply;
 mod bits;
 mod claim;
 mod event;
 mod first;
 mod laws;
+mod lay;
 mod looking;
 mod recv;
 mod seat;
