@@ -40,3 +40,5 @@ pub mod StateSlots
 pub mod StateClaim
 pub mod StateFirst
 pub mod StateLay
+pub mod StateCopy
+pub mod StateReplay

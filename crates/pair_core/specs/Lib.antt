@@ -12,3 +12,5 @@ pub mod State
 pub mod Shows
 pub mod Picks
 pub mod Laying
+pub mod Replaying
+pub mod Copies

@@ -4,12 +4,15 @@
 mod apply;
 mod bits;
 mod claim;
+mod copy;
 mod event;
 mod first;
 mod laws;
 mod lay;
 mod looking;
+mod outcome;
 mod recv;
+mod run;
 mod seat;
 mod send;
 mod state;
@@ -19,4 +22,6 @@ pub mod view;
 
 pub use event::{Applied, Event};
 pub use laws::core_laws;
+pub use outcome::{Replay, Step};
+pub use run::{replay, step};
 pub use state::CoreState;

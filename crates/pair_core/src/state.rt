@@ -5,6 +5,7 @@ ghost use Rattle.pair_core.specs.Names.{Name, Piece, Fits, number, put, put_word
 ghost use Rattle.pair_core.specs.Core.{Core};
 ghost use Rattle.pair_core.specs.State.{slot_of, IsFresh, IsKept, IsAt, Plain, word_count};
 
+use crate::copy::{copy_marks, copy_seats};
 use crate::first::{first_seats, first_words};
 use crate::lay::{Lay, lay_of};
 use crate::seat::{Pick, Seat, Spot, fill};
@@ -67,6 +68,27 @@ impl CoreState {
             recv,
             seats,
             takes: LinkedList::new(alloc),
+        })
+    }
+
+    /// The same state once more.
+    pub(crate) fn copy(&self, alloc: Global) -> Result<CoreState, AllocError>
+        ensures geometry { IfOk result (λ copy. geometry_of copy ≡ geometry_of self.now) }
+        ensures shows { IfOk result (λ copy. (core : Core Plain) → Shows self.now core → Shows copy core) }
+    {
+        let tables = Tables::create(alloc, self.tables.geometry())?;
+        let words = self.words.as_slice().to_vec(alloc)?;
+        let slots = self.slots.as_slice().to_vec(alloc)?;
+        let seats = copy_seats(alloc, self.seats.as_slice())?;
+        let takes = copy_marks(&self.takes)?;
+        Ok(CoreState {
+            tables,
+            words,
+            slots,
+            send: self.send,
+            recv: self.recv,
+            seats,
+            takes,
         })
     }
 
