@@ -18,6 +18,8 @@ mod send;
 mod state;
 mod tables;
 mod take;
+#[cfg(test)]
+mod tests;
 pub mod view;
 
 pub use event::{Applied, Event};
