@@ -42,3 +42,4 @@ pub mod StateFirst
 pub mod StateLay
 pub mod StateCopy
 pub mod StateReplay
+pub mod StateOne

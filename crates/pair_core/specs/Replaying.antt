@@ -42,3 +42,12 @@ LeadsTo g events n Holds =
 abbrev pub Replays : Shape → List Event → Replay → Type 0
 Replays g events (Ran t) = (geometry_of t ≡ g) × LeadsTo g events (length events) (Shows t)
 Replays g events (Stopped at) = LeadsTo g events at (λ s. (e : Event) × (slice_get events at ≡ Some e) × IsRefused g s e)
+
+-- An event is one move at most that is allowed, and so some events lead to one core and one history at most: a replay that ran all of
+-- them couldn't have stopped.
+abbrev pub IsOneMove : Shape → Type 0
+IsOneMove g = (s : Core Plain) (e : Event) (m n : Move Plain) → Reads g s e m → IsAllowed g s m → Reads g s e n → IsAllowed g s n → m ≡ n
+
+abbrev pub LeadToOne : Shape → Type 0
+LeadToOne g = (events : List Event) (n : ℕ) (ms ns : List (Move Plain)) (s t : Core Plain) (h k : List Entry)
+    → Replayed g events n ms s h → Replayed g events n ns t k → (ms ≡ ns) × (s ≡ t) × (h ≡ k)

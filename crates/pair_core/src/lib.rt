@@ -23,7 +23,7 @@ mod tests;
 pub mod view;
 
 pub use event::{Applied, Event};
-pub use laws::core_laws;
+pub use laws::{core_laws, event_laws};
 pub use outcome::{Replay, Step};
 pub use run::{replay, step};
 pub use state::CoreState;
