@@ -1,6 +1,6 @@
 -- A piece that a claim is laid into.
-use Rattle.std.proofs.Common.{◌≡◌, ◌≢◌, ◌∙◌, inl, inr, ℕ, zero, suc, length, ◌++◌, ◌+◌, ◌-◌, ◌%◌, ◌^◌, ◌<◌, ◌≤◌, Bool, true, false, true≢false, ◌==◌, ◌&&◌, ◌||◌, List, [], ◌∷◌, Option, Some, None, bit_or, refl, sym, ap, subst, arith}
-use Rattle.std.specs.Prelude.{if◌then◌else◌, not, IfSome, IfNone}
+use Rattle.std.proofs.Common.{◌≡◌, ◌≢◌, ◌∙◌, inl, inr, ℕ, zero, suc, length, ◌++◌, ◌-◌, ◌%◌, ◌^◌, ◌<◌, Bool, true, false, true≢false, ◌==◌, ◌&&◌, ◌||◌, List, [], ◌∷◌, Option, Some, None, bit_or, refl, sym, ap, subst, arith}
+use Rattle.std.specs.Prelude.{not, IfSome, IfNone}
 use Rattle.std.proofs.lemmas.Bool.{cases_Bool}
 use Rattle.std.specs.List.{list_any}
 use Rattle.part_geometry.specs.Shape.{Shape, IsShape}
@@ -15,7 +15,6 @@ use Rattle.pair_core.specs.Events.{out_in, take_in}
 use Rattle.pair_core.specs.declared.seat.Seat.{Seat}
 use Rattle.pair_core.proofs.Full.{full_passes, passes_full}
 use Rattle.pair_core.specs.State.{Plain, IsAt}
-use Rattle.pair_core.specs.Laying.{laid_on}
 use Rattle.pair_core.specs.declared.view.Pending.{Pending}
 use Rattle.pair_core.proofs.LayLists.{has_here, has_else, goes_on, on_from}
 

@@ -1,15 +1,14 @@
 -- An event is one move at most that is allowed.
-use Rattle.std.proofs.Common.{◌≡◌, ◌∙◌, ℕ, zero, suc, ◌+◌, ◌-◌, ◌*◌, ◌/◌, ◌%◌, ◌<◌, List, [], ◌∷◌, ◌++◌, Option, Some, refl, sym, ap, subst, arith}
-use Rattle.std.specs.Prelude.{slice_get}
+use Rattle.std.proofs.Common.{◌≡◌, ◌∙◌, ℕ, zero, suc, ◌+◌, ◌*◌, ◌%◌, List, [], ◌∷◌, ◌++◌, Some, refl, sym, ap, subst, arith}
 use Rattle.part_geometry.specs.Shape.{Shape}
 use Rattle.part_geometry.specs.Pieces.{pieces}
-use Rattle.pair_core.specs.Names.{Piece, number, claim_words, take_words}
+use Rattle.pair_core.specs.Names.{Piece, number}
 use Rattle.pair_core.specs.Core.{Core}
-use Rattle.pair_core.specs.Moves.{Move, StorePiece, StoreClaim, LoadClaim, LoadPiece, LoadRelease, ShutClaim, TryClaim, LayPiece, StoreReturn, StoreTake, TakePart, ReturnPart, StoreRelease, Split, Rise, Join, IsAllowed, after, first_state}
+use Rattle.pair_core.specs.Moves.{Move, StorePiece, StoreClaim, LoadClaim, LoadPiece, LoadRelease, ShutClaim, TryClaim, LayPiece, StoreReturn, StoreTake, TakePart, ReturnPart, StoreRelease, Split, Rise, Join, IsAllowed, after}
 use Rattle.pair_core.specs.History.{Entry, entries}
 use Rattle.pair_core.specs.State.{Plain}
 use Rattle.pair_core.specs.Events.{Reads}
-use Rattle.pair_core.specs.Replaying.{Replayed, IsOneMove, LeadToOne}
+use Rattle.pair_core.specs.Replaying.{IsOneMove, LeadToOne}
 use Rattle.pair_core.specs.declared.view.Pending.{Pending}
 use Rattle.pair_core.specs.declared.event.Event.{Event}
 use Rattle.pair_core.proofs.StateNumbers.{row_one, cell_one}

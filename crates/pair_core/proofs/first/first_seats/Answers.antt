@@ -1,4 +1,4 @@
-use Rattle.std.proofs.Common.{◌≡◌, ◌∙◌, ◌++◌, ◌∷◌, [], ℕ, List, length, sym, subst, ap}
+use Rattle.std.proofs.Common.{◌∙◌, ◌++◌, ◌∷◌, [], ℕ, List, length, sym, subst, ap}
 use Rattle.std.specs.Prelude.{replicate}
 use Rattle.pair_core.specs.Moves.{first_word}
 use Rattle.pair_core.specs.State.{ListsWords}

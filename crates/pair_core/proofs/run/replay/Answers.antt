@@ -1,4 +1,4 @@
-use Rattle.std.proofs.Common.{◌≡◌, ◌∙◌, arith}
+use Rattle.std.proofs.Common.{◌≡◌, ◌∙◌}
 use Rattle.std.proofs.lemmas.Option.{slice_get-get_or}
 use Rattle.pair_core.specs.Shows.{Shows, geometry_of}
 use Rattle.pair_core.specs.declared.event.Applied.TheVariants.{Done, NotAllowed}

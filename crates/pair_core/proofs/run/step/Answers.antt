@@ -2,7 +2,6 @@ use Rattle.std.proofs.Common.{◌≡◌, ◌∙◌, subst}
 use Rattle.part_geometry.specs.Shape.{Shape}
 use Rattle.pair_core.specs.Events.{Becomes}
 use Rattle.pair_core.specs.Shows.{Shows, geometry_of}
-use Rattle.pair_core.specs.declared.event.Applied.{Applied}
 use Rattle.pair_core.specs.declared.event.Applied.TheVariants.{Done, NotAllowed}
 use Rattle.pair_core.proofs.run.step.Goals as goal
 

@@ -1,8 +1,7 @@
-use Rattle.std.proofs.Common.{◌≡◌, ◌∙◌, ℕ, ap, sym, refl, subst, length, List}
+use Rattle.std.proofs.Common.{◌∙◌, ℕ, ap, sym, refl, subst, length}
 use Rattle.pair_core.specs.Names.{put}
-use Rattle.pair_core.specs.Core.{Core}
 use Rattle.pair_core.specs.Laying.{laid_on}
-use Rattle.pair_core.specs.State.{Plain, IsView}
+use Rattle.pair_core.specs.State.{IsView}
 use Rattle.pair_core.proofs.StateSeats.{read_seat, at_seat, at_set, kept_set, seats_set, pends_else, pends_here, view_equal, ok_map, err_map}
 use Rattle.pair_core.proofs.state.CoreState.lay.Goals as goal
 

@@ -1,4 +1,4 @@
-use Rattle.std.proofs.Common.{◌≡◌, ◌∙◌, ◌-◌, ◌%◌, ◌^◌, ℕ, List, bit_or, refl, sym, subst, ap}
+use Rattle.std.proofs.Common.{◌∙◌, ◌%◌, ◌^◌, ℕ, List, bit_or, sym, subst, ap}
 use Rattle.part_geometry.specs.Shape.{Shape}
 use Rattle.pair_core.specs.Core.{Home}
 use Rattle.pair_core.specs.Names.{Piece, Fits, number, put}

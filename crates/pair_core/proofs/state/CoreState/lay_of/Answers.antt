@@ -1,4 +1,4 @@
-use Rattle.std.proofs.Common.{◌≡◌, ◌∙◌, ◌%◌, ℕ, Some, None, ap, sym, subst}
+use Rattle.std.proofs.Common.{◌≡◌, ◌∙◌, ◌%◌, Some, None, ap, sym, subst}
 use Rattle.pair_core.specs.Names.{Piece, number}
 use Rattle.pair_core.specs.Moves.{MayLay}
 use Rattle.pair_core.specs.declared.view.Pending.{Pending}

@@ -1,11 +1,9 @@
-use Rattle.std.proofs.Common.{◌≡◌, ◌∙◌, ◌<◌, ◌↔◌, ℕ, Some, None, Option, true, false, true≢false, refl, sym, subst, ap, arith}
+use Rattle.std.proofs.Common.{◌≡◌, ◌∙◌, ◌<◌, ◌↔◌, ℕ, Some, None, Option, true, false, true≢false, refl, sym, subst, ap}
 use Rattle.std.specs.Prelude.{IsTrue}
 use Rattle.part_geometry.specs.Shape.{Shape, IsShape}
 use Rattle.part_geometry.specs.Pieces.{pieces}
-use Rattle.pair_core.specs.Core.{Core}
 use Rattle.pair_core.specs.Moves.{LayPiece, IsAllowed, MayLay, lays}
 use Rattle.pair_core.specs.Reading.{IsFull}
-use Rattle.pair_core.specs.State.{Plain, IsAt}
 use Rattle.pair_core.specs.Shows.{Shows}
 use Rattle.pair_core.specs.declared.view.Pending.{Pending}
 use Rattle.pair_core.proofs.StateSeats.{at_seat}

@@ -1,11 +1,10 @@
-use Rattle.std.proofs.Common.{◌≡◌, ◌∙◌, ◌*◌, List, length, refl, sym, subst, ap}
+use Rattle.std.proofs.Common.{◌≡◌, ◌∙◌, ◌*◌, length, refl, subst, ap}
 use Rattle.std.specs.Prelude.{replicate}
 use Rattle.std.proofs.lemmas.List.{length-replicate}
 use Rattle.part_geometry.specs.Shape.{Shape}
 use Rattle.part_geometry.specs.Cells.{cells}
 use Rattle.pair_core.specs.Moves.{first_state}
 use Rattle.pair_core.specs.State.{Plain, Stands}
-use Rattle.pair_core.specs.declared.seat.Spot.{Spot}
 use Rattle.pair_core.specs.declared.seat.Spot.TheVariants.{Filled}
 use Rattle.pair_core.proofs.StateFirst.{first_kept, first_stands}
 use Rattle.pair_core.proofs.state.CoreState.start.Goals as goal
