@@ -39,3 +39,7 @@ pub mod StateAdds
 pub mod StateSlots
 pub mod StateClaim
 pub mod StateFirst
+pub mod StateLay
+pub mod StateCopy
+pub mod StateReplay
+pub mod StateOne

@@ -1,18 +1,18 @@
 -- A seat that stands behind the others from now on.
-use Rattle.std.proofs.Common.{◌≡◌, ◌≢◌, ◌⊎◌, inl, inr, ℕ, zero, suc, ◌+◌, ◌%◌, ◌^◌, ◌<◌, ◌≤◌, Bool, true, false, ◌==◌, min, List, [], ◌∷◌, ◌++◌, length, get_or, Option, Some, None, refl, sym, ap, ◌∙◌, subst, arith}
-use Rattle.std.specs.Prelude.{slice_get, replicate}
+use Rattle.std.proofs.Common.{◌≡◌, ◌≢◌, ℕ, zero, suc, ◌+◌, ◌%◌, ◌^◌, ◌<◌, Bool, true, false, ◌==◌, List, [], ◌∷◌, ◌++◌, length, get_or, Some, None, refl, sym, ap, ◌∙◌, subst, arith}
+use Rattle.std.specs.Prelude.{slice_get}
 use Rattle.std.proofs.lemmas.List.{length_push, get_or_append_left, get_or_push, get_or-replicate, length-replicate}
 use Rattle.std.proofs.lemmas.Option.{slice_get_within, get_or_from_slice_get, slice_get-get_or}
 use Rattle.part_geometry.specs.Shape.{Shape}
-use Rattle.pair_core.specs.Names.{Name, Fits, number, put}
+use Rattle.pair_core.specs.Names.{Name, number, put}
 use Rattle.pair_core.specs.Core.{Core}
 use Rattle.pair_core.specs.Steps.{counted, entered, enters, marker_more, watcher_more}
-use Rattle.pair_core.specs.State.{IsKept, IsAt, IsFresh, IsView, IsBlank, Plain, Stands, ListsWords, ListsLooks, word_count}
+use Rattle.pair_core.specs.State.{IsKept, IsAt, IsFresh, IsView, IsBlank, Plain, Stands, word_count}
 use Rattle.pair_core.specs.declared.view.Mark.{Mark}
 use Rattle.pair_core.specs.declared.view.SendSide.{SendSide}
 use Rattle.pair_core.specs.declared.view.RecvSide.{RecvSide}
 use Rattle.pair_core.specs.declared.view.Life.{Life}
-use Rattle.pair_core.specs.declared.view.Life.TheVariants.{Blank, Live, Spent}
+use Rattle.pair_core.specs.declared.view.Life.TheVariants.{Live, Spent}
 use Rattle.pair_core.specs.declared.seat.Seat.{Seat}
 use Rattle.pair_core.specs.declared.seat.Spot.{Spot}
 use Rattle.pair_core.proofs.Puts.{put_here, put_else}

@@ -1,9 +1,9 @@
 -- What became of an event that was made.
-use Rattle.std.proofs.Common.{◌≡◌, ◌∙◌, ℕ, [], ◌∷◌, Bool, true, false, None, Some, Option, refl, sym, subst}
+use Rattle.std.proofs.Common.{◌≡◌, ℕ, [], ◌∷◌, Bool, true, false, None, Option, refl, sym, subst}
 use Rattle.part_geometry.specs.Shape.{Shape}
 use Rattle.pair_core.specs.Core.{Core}
 use Rattle.pair_core.specs.Moves.{Move, IsAllowed, after}
-use Rattle.pair_core.specs.History.{Entry, entries, where_so, Open, Shut, Listen}
+use Rattle.pair_core.specs.History.{Entry, entries, where_so}
 use Rattle.pair_core.specs.State.{Plain}
 use Rattle.pair_core.specs.Events.{Reads, Becomes, out_in, take_in, quiet}
 use Rattle.pair_core.specs.declared.event.Event.{Event}

@@ -1,19 +1,16 @@
 -- The state before the first step.
-use Rattle.std.proofs.Common.{◌≡◌, ◌≢◌, ℕ, zero, suc, ◌+◌, ◌*◌, ◌^◌, ◌<◌, ◌≤◌, min, List, [], ◌∷◌, length, get_or, Some, None, refl, sym, ap, ◌∙◌, subst, arith}
+use Rattle.std.proofs.Common.{◌≡◌, ◌≢◌, ℕ, zero, suc, ◌+◌, ◌*◌, ◌^◌, ◌<◌, List, [], ◌∷◌, length, get_or, Some, None, refl, sym, ap, ◌∙◌, subst, arith}
 use Rattle.std.specs.Prelude.{slice_get, replicate, nat_lt, if◌then◌else◌}
 use Rattle.std.proofs.lemmas.Bool.{le-ltb}
 use Rattle.std.proofs.lemmas.List.{get_or-replicate, length-replicate}
 use Rattle.part_geometry.specs.Shape.{Shape}
 use Rattle.part_geometry.specs.Cells.{cells}
-use Rattle.part_geometry.specs.Pieces.{pieces}
-use Rattle.pair_core.specs.Names.{Name, Fits, number, claim_words, take_words}
-use Rattle.pair_core.specs.Core.{Core}
+use Rattle.pair_core.specs.Names.{number}
 use Rattle.pair_core.specs.Moves.{first_state, first_word}
 use Rattle.pair_core.specs.State.{IsKept, IsFresh, IsView, Plain, Stands, ListsWords, slot_of, word_count}
 use Rattle.pair_core.specs.declared.view.Mark.{Mark}
 use Rattle.pair_core.specs.declared.view.SendSide.{SendSide}
 use Rattle.pair_core.specs.declared.view.RecvSide.{RecvSide}
-use Rattle.pair_core.specs.declared.view.Life.{Life}
 use Rattle.pair_core.specs.declared.view.Life.TheVariants.{Blank, Live}
 use Rattle.pair_core.specs.declared.seat.Seat.{Seat}
 use Rattle.pair_core.specs.declared.seat.Spot.{Spot}

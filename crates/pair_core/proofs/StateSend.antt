@@ -1,10 +1,10 @@
 -- The sides as they stand after their steps.
-use Rattle.std.proofs.Common.{◌≡◌, ◌⊎◌, ◌∙◌, ℕ, ◌+◌, ◌%◌, ◌<◌, ◌≤◌, ◌^◌, ◌/◌, ◌==◌, ◌∷◌, bit_or, sym, ap, subst}
+use Rattle.std.proofs.Common.{◌≡◌, ◌⊎◌, ◌∙◌, ℕ, ◌+◌, ◌%◌, ◌<◌, ◌≤◌, ◌^◌, ◌/◌, ◌==◌, ◌∷◌, bit_or, ap, subst}
 use Rattle.part_geometry.specs.Shape.{Shape}
 use Rattle.part_geometry.specs.Pieces.{pieces}
 use Rattle.gate_word.specs.Words.{round_in}
 use Rattle.pair_core.specs.Words.{empty}
-use Rattle.pair_core.specs.Names.{Name, Claim, Release, Take, Return, Piece, claim_words, take_words}
+use Rattle.pair_core.specs.Names.{Claim, Release, Take, Return, Piece, claim_words, take_words}
 use Rattle.pair_core.specs.Core.{Core, Home, Out}
 use Rattle.part_geometry.specs.Cells.{recv_of}
 use Rattle.pair_core.specs.Moves.{IsAllowed, StorePiece, StoreClaim, StoreReturn, StoreTake, ShutClaim, StoreRelease, TakePart, ReturnPart, MayShut, AreSeen, last_round_number}

@@ -11,3 +11,6 @@ pub mod Events
 pub mod State
 pub mod Shows
 pub mod Picks
+pub mod Laying
+pub mod Replaying
+pub mod Copies

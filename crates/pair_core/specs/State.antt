@@ -1,5 +1,5 @@
 -- What a state keeps, and which core it shows.
-use Rattle.std.specs.Prelude.{◌≡◌, ◌≢◌, ℕ, ◌+◌, ◌-◌, ◌*◌, ◌^◌, ◌<◌, ◌≤◌, List, [], length, map, replicate, min, slice_index, slice_index_or, slice_get, Option, Some, None}
+use Rattle.std.specs.Prelude.{◌≡◌, ◌≢◌, ℕ, ◌+◌, ◌-◌, ◌*◌, ◌^◌, ◌<◌, ◌≤◌, List, [], length, map, replicate, min, slice_index, slice_index_or, slice_get, Some, None}
 use Rattle.std.specs.List.{range_with_len}
 use Rattle.part_geometry.specs.declared.walk.Cell.{Cell}
 use Rattle.part_geometry.specs.Shape.{Shape, IsShape}
@@ -12,7 +12,6 @@ use Rattle.pair_core.specs.Moves.{last_round_number, first_word}
 use Rattle.pair_core.specs.declared.view.Mark.{Mark}
 use Rattle.pair_core.specs.declared.view.SendSide.{SendSide}
 use Rattle.pair_core.specs.declared.view.RecvSide.{RecvSide}
-use Rattle.pair_core.specs.declared.view.Life.{Life}
 use Rattle.pair_core.specs.declared.view.Life.TheVariants.{Blank, Live}
 use Rattle.pair_core.specs.declared.seat.Seat.{Seat}
 use Rattle.pair_core.specs.declared.seat.Spot.{Spot}

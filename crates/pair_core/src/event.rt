@@ -69,4 +69,13 @@ impl Applied {
             take: Some((round, partition)),
         }
     }
+    /// It was made, and a piece went out by it.
+    pub(crate) fn sending(round: u32, piece: u32) -> Applied
+        ensures { result ≡ Applied.Done (Some (round, piece)) None }
+    {
+        Applied::Done {
+            out: Some((round, piece)),
+            take: None,
+        }
+    }
 }

@@ -4,6 +4,7 @@ ghost use Rattle.std.specs.Prelude.{◌≡◌, ◌∷◌, IfErr, true, false, �
 ghost use Rattle.part_geometry.specs.Cells.{cells};
 ghost use Rattle.pair_core.specs.Picks.{IsFilled};
 ghost use Rattle.pair_core.specs.Steps.{mark};
+ghost use Rattle.pair_core.specs.Laying.{laid_on};
 
 use crate::tables::Tables;
 use crate::view::{Mark, Pending};
@@ -140,5 +141,23 @@ impl Seat {
         ensures marks { self.new.marks ≡ self.old.marks }
     {
         self.pending = pending;
+    }
+    /// A piece more has the claim that pends; where it is the last one, none pends from now on.
+    pub(crate) fn lay(&mut self, piece: u32, last: bool) -> Result<(), AllocError>
+        ensures seat { self.new.seat ≡ self.old.seat }
+        ensures seen { self.new.seen ≡ self.old.seen }
+        ensures looks { self.new.looks ≡ self.old.looks }
+        ensures pending { IfOk result (λ _. self.new.pending ≡ laid_on last piece self.old.pending) }
+        ensures memory { IfErr result (λ _. self.new.pending ≡ self.old.pending) }
+        ensures marks { self.new.marks ≡ self.old.marks }
+    {
+        if last {
+            self.pending = None;
+            return Ok(());
+        }
+        if let Some(pending) = &mut self.pending {
+            pending.laid.push_front(piece)?;
+        }
+        Ok(())
     }
 }

@@ -1,11 +1,13 @@
 //! The state of a pair as plain data: what it reads, and the changes that the steps are made of.
 
-ghost use Rattle.std.specs.Prelude.{◌≡◌, ◌↔◌, IsTrue, None, ◌∷◌, ◌≢◌, ℕ, ◌+◌, ◌-◌, ◌*◌, ◌<◌, ◌≤◌, ◌^◌, Some, length, slice_get, IfSome, IfNone, IfOk, IfErr};
-ghost use Rattle.pair_core.specs.Names.{Name, Fits, number, put, put_word};
+ghost use Rattle.std.specs.Prelude.{◌≡◌, ◌↔◌, IsTrue, None, ◌∷◌, ◌≢◌, ℕ, ◌+◌, ◌-◌, ◌*◌, ◌%◌, ◌<◌, ◌≤◌, ◌^◌, Some, length, slice_get, IfSome, IfNone, IfOk, IfErr};
+ghost use Rattle.pair_core.specs.Names.{Name, Piece, Fits, number, put, put_word};
 ghost use Rattle.pair_core.specs.Core.{Core};
 ghost use Rattle.pair_core.specs.State.{slot_of, IsFresh, IsKept, IsAt, Plain, word_count};
 
+use crate::copy::{copy_marks, copy_seats};
 use crate::first::{first_seats, first_words};
+use crate::lay::{Lay, lay_of};
 use crate::seat::{Pick, Seat, Spot, fill};
 use crate::tables::Tables;
 use crate::view::{Mark, Pending, RecvSide, SendSide};
@@ -29,8 +31,9 @@ pub struct CoreState {
 
 impl CoreState {
     ghost use Rattle.pair_core.specs.Shows.{Shows, geometry_of};
-    ghost use Rattle.pair_core.specs.Moves.{first_state};
+    ghost use Rattle.pair_core.specs.Moves.{MayLay, first_state};
     ghost use Rattle.pair_core.specs.Picks.{picked};
+    ghost use Rattle.pair_core.specs.Laying.{IsLay, laid_on};
     ghost use Rattle.pair_core.specs.Steps.{enters, loads, mark, put_slots, saw, wrote};
 
     /// The state of a pair before its first step: round 0 counts as sent, taken, given back and released.
@@ -65,6 +68,27 @@ impl CoreState {
             recv,
             seats,
             takes: LinkedList::new(alloc),
+        })
+    }
+
+    /// The same state once more.
+    pub(crate) fn copy(&self, alloc: Global) -> Result<CoreState, AllocError>
+        ensures geometry { IfOk result (λ copy. geometry_of copy ≡ geometry_of self.now) }
+        ensures shows { IfOk result (λ copy. (core : Core Plain) → Shows self.now core → Shows copy core) }
+    {
+        let tables = Tables::create(alloc, self.tables.geometry())?;
+        let words = self.words.as_slice().to_vec(alloc)?;
+        let slots = self.slots.as_slice().to_vec(alloc)?;
+        let seats = copy_seats(alloc, self.seats.as_slice())?;
+        let takes = copy_marks(&self.takes)?;
+        Ok(CoreState {
+            tables,
+            words,
+            slots,
+            send: self.send,
+            recv: self.recv,
+            seats,
+            takes,
         })
     }
 
@@ -241,6 +265,33 @@ impl CoreState {
             → Shows self.new (record core { pending = put core.pending n pending }) }
     {
         self.seats[at].set_pending(pending);
+    }
+
+    /// A piece more has the claim of a seat that pends; where it is the last one, none pends from now on.
+    pub(crate) fn lay(&mut self, at: usize, piece: u32, last: bool) -> Result<(), AllocError>
+        requires { at < length self.old.seats.items }
+        ensures tables { self.new.tables ≡ self.old.tables }
+        ensures send { self.new.send ≡ self.old.send }
+        ensures recv { self.new.recv ≡ self.old.recv }
+        ensures seats { (m n : ℕ) → IsAt self.old.seats.items m n → IsAt self.new.seats.items m n }
+        ensures shows { IfOk result (λ _. (core : Core Plain) (n : ℕ) → Shows self.old core → IsAt self.old.seats.items at n
+            → Shows self.new (record core { pending = put core.pending n (laid_on last piece (core.pending n)) })) }
+        ensures memory { IfErr result (λ _. (core : Core Plain) → Shows self.old core → Shows self.new core) }
+    {
+        self.seats[at].lay(piece, last)
+    }
+
+    /// What a seat lays where it lays a partition into the piece of a word; `None` where it may not.
+    pub(crate) fn lay_of(&self, at: usize, partition: u32, word: usize) -> Option<Lay>
+        requires { at < length self.now.seats.items }
+        ensures some { IfSome result (λ l. (v : Seat) × (x : Pending) × (slice_get self.now.seats.items at ≡ Some v) × (v.pending ≡ Some x) × IsLay self.now.tables x partition word l) }
+        ensures none { IfNone result ((v : Seat) (x : Pending) (i : ℕ) → slice_get self.now.seats.items at ≡ Some v → v.pending ≡ Some x
+            → word ≡ number self.now.tables (Piece (x.round % self.now.tables.depth) i) → ¬ MayLay self.now.tables x partition i) }
+    {
+        match &self.seats[at].pending {
+            Some(pending) => lay_of(&self.tables, pending, partition, word),
+            None => None,
+        }
     }
 
     /// A seat that wasn't met so far stands behind the others, and its side counts it.

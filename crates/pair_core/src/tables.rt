@@ -4,7 +4,7 @@ ghost use Rattle.std.specs.Prelude.{◌≢◌, ◌/◌, false, ◌↔◌, ℕ, I
 ghost use Rattle.std.specs.List.{range_with_len};
 ghost use Rattle.part_geometry.specs.Shape.{IsShape};
 ghost use Rattle.part_geometry.specs.Cells.{cells, send_of, recv_of};
-ghost use Rattle.part_geometry.specs.Pieces.{pieces, piece_of, first_part, need_count};
+ghost use Rattle.part_geometry.specs.Pieces.{pieces, piece_of, first_part, need_count, Touches};
 ghost use Rattle.part_geometry.specs.Walk.{cell_at};
 ghost use Rattle.pair_core.specs.Names.{Piece, Take, Return, Fits, claim_words, take_words, number};
 ghost use Rattle.pair_core.specs.Reading.{IsFull};
@@ -206,6 +206,27 @@ impl Tables {
             return None;
         }
         Some(word - first)
+    }
+
+    /// Whether a piece touches a send partition.
+    pub(crate) fn touches(&self, i: usize, p: u32) -> bool
+        requires { i < pieces self.now }
+        ensures { IsTrue result ↔ Touches self.now i p }
+    {
+        let _geometry = self.geometry();
+        let first = self.first_part(i);
+        p >= first && p - first < self.part_count(i)
+    }
+
+    /// The bit of a send partition in the word of a piece that touches it.
+    pub(crate) fn part_bit(&self, i: usize, p: u32) -> u32
+        requires piece { i < pieces self.now }
+        requires touches { Touches self.now i p }
+        ensures value { result ≡ p - first_part self.now i }
+        ensures limits { result < 32 }
+    {
+        let _geometry = self.geometry();
+        p - self.first_part(i)
     }
 
     /// Whether a word of piece `i` is full in a round.

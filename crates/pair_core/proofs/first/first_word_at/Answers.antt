@@ -1,4 +1,4 @@
-use Rattle.std.proofs.Common.{◌≡◌, ◌∙◌, ◌+◌, ◌*◌, ◌-◌, ◌%◌, ◌≤◌, ap, ℕ, false, refl, arith}
+use Rattle.std.proofs.Common.{◌≡◌, ◌∙◌, ◌*◌, ◌-◌, ◌%◌, ap, ℕ, false, refl, arith}
 use Rattle.gate_word.specs.Words.{word_of}
 use Rattle.part_geometry.specs.Pieces.{pieces}
 use Rattle.pair_core.specs.Names.{claim_words, take_words}

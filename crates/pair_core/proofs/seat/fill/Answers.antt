@@ -1,8 +1,6 @@
-use Rattle.std.proofs.Common.{◌≡◌, ◌<◌, ◌+◌, ◌*◌, ◌∙◌, ℕ, ap, sym, subst, arith}
+use Rattle.std.proofs.Common.{◌+◌, ◌*◌, ◌∙◌, ℕ, ap, arith}
 use Rattle.std.specs.Prelude.{slice_set}
-use Rattle.part_geometry.specs.Cells.{cells}
-use Rattle.part_geometry.specs.Walk.{cell_at}
-use Rattle.pair_core.specs.Picks.{picked_cell, picked}
+use Rattle.pair_core.specs.Picks.{picked_cell}
 use Rattle.pair_core.proofs.StateSlots.{filled_more, picked_at}
 use Rattle.pair_core.proofs.seat.fill.Goals as goal
 

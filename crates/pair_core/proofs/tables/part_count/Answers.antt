@@ -1,6 +1,4 @@
-use Rattle.std.proofs.Common.{◌≡◌, ◌≤◌, ap, sym, ◌∙◌, arith}
-use Rattle.part_geometry.specs.Cells.{send_of}
-use Rattle.part_geometry.specs.Pieces.{first_part, last_part, last_cell}
+use Rattle.std.proofs.Common.{arith}
 use Rattle.part_geometry.proofs.PieceFacts.{need_count-pos}
 use Rattle.part_geometry.proofs.ReaderFacts.{last_part-is}
 use Rattle.pair_core.proofs.tables.part_count.Goals as goal

@@ -1,10 +1,8 @@
-use Rattle.std.proofs.Common.{◌≡◌, ◌∙◌, ◌∷◌, ℕ, ap, sym, refl, subst, length, List}
-use Rattle.std.specs.Prelude.{slice_set}
+use Rattle.std.proofs.Common.{◌∙◌, ◌∷◌, ℕ, ap, sym, refl, subst, length}
 use Rattle.pair_core.specs.Names.{put}
-use Rattle.pair_core.specs.Core.{Core}
 use Rattle.pair_core.specs.Steps.{mark}
-use Rattle.pair_core.specs.State.{Plain, IsView, IsAt, Stands}
-use Rattle.pair_core.proofs.StateSeats.{SameAt, read_seat, at_seat, at_set, kept_set, seats_set, marked_else, marked_here, view_equal, ok_map, err_map}
+use Rattle.pair_core.specs.State.{IsView}
+use Rattle.pair_core.proofs.StateSeats.{read_seat, at_seat, at_set, kept_set, seats_set, marked_else, marked_here, view_equal, ok_map, err_map}
 use Rattle.pair_core.proofs.state.CoreState.add_mark.Goals as goal
 
 pub invariant_of-self : goal.invariant_of-self

@@ -1,4 +1,4 @@
-use Rattle.std.proofs.Common.{◌≡◌, ◌<◌, ap, sym, true≢false, arith}
+use Rattle.std.proofs.Common.{◌<◌, ap, sym, true≢false, arith}
 use Rattle.part_geometry.specs.Shape.{Shape}
 use Rattle.pair_core.proofs.state.CoreState.are_back.Goals as goal
 

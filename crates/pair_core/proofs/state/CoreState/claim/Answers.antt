@@ -1,7 +1,7 @@
-use Rattle.std.proofs.Common.{◌≡◌, ◌∷◌, ◌<◌, ◌/◌, ◌%◌, ◌∙◌, ℕ, List, Some, sym, subst, ap, refl}
+use Rattle.std.proofs.Common.{◌∷◌, ◌<◌, ◌/◌, ◌%◌, ◌∙◌, List, Some, sym, subst, ap, refl}
 use Rattle.part_geometry.specs.Shape.{Shape}
 use Rattle.pair_core.specs.Core.{Out}
-use Rattle.pair_core.specs.Names.{Claim, Fits, number, put, claim_words}
+use Rattle.pair_core.specs.Names.{Claim, Fits, put, claim_words}
 use Rattle.pair_core.specs.Steps.{mark, put_slots as slots_after}
 use Rattle.pair_core.specs.Picks.{picked}
 use Rattle.pair_core.specs.State.{IsAt}

@@ -1,6 +1,6 @@
-use Rattle.std.proofs.Common.{◌≡◌, ◌<◌, ℕ, refl, sym, subst, ap, ◌∙◌, arith}
+use Rattle.std.proofs.Common.{◌<◌, refl, sym, subst, arith}
 use Rattle.part_geometry.specs.Shape.{Shape}
-use Rattle.pair_core.specs.Names.{Claim, claim_words, Fits, number}
+use Rattle.pair_core.specs.Names.{Claim, claim_words, Fits}
 use Rattle.pair_core.specs.Moves.{LoadClaim}
 use Rattle.pair_core.specs.Steps.{enters}
 use Rattle.pair_core.specs.Shows.{Shows}

@@ -1,4 +1,4 @@
-use Rattle.std.proofs.Common.{◌≡◌, ◌<◌, ℕ, refl, sym, subst, ap, ◌∙◌, arith}
+use Rattle.std.proofs.Common.{refl, sym, subst, ap, ◌∙◌}
 use Rattle.part_geometry.specs.Shape.{Shape}
 use Rattle.pair_core.specs.Names.{Piece, Fits, number}
 use Rattle.pair_core.specs.Moves.{LoadPiece, IsAllowed}

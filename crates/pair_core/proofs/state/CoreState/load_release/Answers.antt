@@ -1,4 +1,4 @@
-use Rattle.std.proofs.Common.{refl, sym, ◌∙◌, arith}
+use Rattle.std.proofs.Common.{refl, arith}
 use Rattle.pair_core.specs.Names.{Release}
 use Rattle.pair_core.specs.Moves.{LoadRelease}
 use Rattle.pair_core.specs.Shows.{Shows}

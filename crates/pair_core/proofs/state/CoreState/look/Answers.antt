@@ -1,4 +1,4 @@
-use Rattle.std.proofs.Common.{ℕ, subst, ◌≡◌}
+use Rattle.std.proofs.Common.{ℕ, subst}
 use Rattle.pair_core.specs.Steps.{saw as saw_core}
 use Rattle.pair_core.specs.Shows.{Shows}
 use Rattle.pair_core.proofs.state.CoreState.look.Goals as goal

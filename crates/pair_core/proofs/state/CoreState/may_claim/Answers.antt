@@ -1,4 +1,4 @@
-use Rattle.std.proofs.Common.{◌≡◌, ◌/◌, ◌%◌, ℕ, refl, sym, ap, true≢false, arith, rules, subst, ◌∙◌}
+use Rattle.std.proofs.Common.{◌/◌, ◌%◌, ℕ, refl, sym, ap, true≢false, arith}
 use Rattle.std.proofs.lemmas.Bool.{eq-eqb, eqb-true}
 use Rattle.pair_core.specs.Words.{bit}
 use Rattle.pair_core.specs.Names.{Claim}

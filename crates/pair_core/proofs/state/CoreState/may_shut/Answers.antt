@@ -1,4 +1,4 @@
-use Rattle.std.proofs.Common.{◌≡◌, ◌↔◌, ℕ, ap, refl, sym, subst, true≢false, arith}
+use Rattle.std.proofs.Common.{◌↔◌, ℕ, ap, refl, sym, subst, true≢false, arith}
 use Rattle.std.specs.Prelude.{IsTrue}
 use Rattle.pair_core.specs.Moves.{MayShut}
 use Rattle.pair_core.specs.declared.view.SendSide.{SendSide}

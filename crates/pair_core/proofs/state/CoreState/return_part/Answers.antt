@@ -1,4 +1,4 @@
-use Rattle.std.proofs.Common.{◌≡◌, ◌<◌, ◌/◌, ◌∙◌, ℕ, List, refl, sym, subst, ap, arith}
+use Rattle.std.proofs.Common.{◌<◌, ◌/◌, ◌∙◌, List, refl, sym, subst, ap, arith}
 use Rattle.part_geometry.specs.Shape.{Shape}
 use Rattle.pair_core.specs.Names.{Return, Fits, number, take_words}
 use Rattle.pair_core.specs.Moves.{ReturnPart}

@@ -1,8 +1,7 @@
-use Rattle.std.proofs.Common.{◌≡◌, ◌∙◌, ◌<◌, ℕ, ap, sym, subst, refl, length, arith}
+use Rattle.std.proofs.Common.{◌∙◌, ◌<◌, ℕ, ap, sym, subst, length, arith}
 use Rattle.std.proofs.Math.ListN.{length-set}
-use Rattle.pair_core.specs.Core.{Core}
 use Rattle.pair_core.specs.Steps.{saw as saw_core}
-use Rattle.pair_core.specs.State.{Plain, IsView, word_count}
+use Rattle.pair_core.specs.State.{IsView}
 use Rattle.pair_core.proofs.StateSeats.{read_seat, at_seat, at_set, kept_set, seats_set, saw_else, saw_here}
 use Rattle.pair_core.proofs.state.CoreState.saw.Goals as goal
 

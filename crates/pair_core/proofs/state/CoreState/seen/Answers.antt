@@ -1,6 +1,4 @@
-use Rattle.std.proofs.Common.{◌≡◌, ◌<◌, ℕ, ap, sym, ◌∙◌, get_or, length, arith}
-use Rattle.std.proofs.lemmas.Option.{get_or_from_slice_get}
-use Rattle.pair_core.specs.Names.{Name}
+use Rattle.std.proofs.Common.{◌<◌, ℕ, ap, sym, ◌∙◌, get_or, length, arith}
 use Rattle.pair_core.proofs.StateSeats.{read_seat, read_number, at_seat}
 use Rattle.pair_core.proofs.state.CoreState.seen.Goals as goal
 

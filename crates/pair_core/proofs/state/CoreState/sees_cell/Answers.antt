@@ -1,4 +1,4 @@
-use Rattle.std.proofs.Common.{◌≡◌, ◌<◌, ◌↔◌, ◌∙◌, ◌%◌, ℕ, sym, subst, ap, arith}
+use Rattle.std.proofs.Common.{◌↔◌, ◌∙◌, ◌%◌, ℕ, sym, subst, ap, arith}
 use Rattle.std.specs.Prelude.{IsTrue}
 use Rattle.part_geometry.specs.declared.walk.Cell.{Cell}
 use Rattle.pair_core.specs.Names.{Piece}

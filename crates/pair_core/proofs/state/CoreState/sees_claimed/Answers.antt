@@ -1,4 +1,4 @@
-use Rattle.std.proofs.Common.{◌≡◌, ◌∙◌, ◌<◌, ◌/◌, ◌%◌, ℕ, ap, sym, refl, subst, true≢false, below_more, arith}
+use Rattle.std.proofs.Common.{◌<◌, ◌/◌, ◌%◌, ℕ, ap, sym, refl, true≢false, below_more, arith}
 use Rattle.gate_word.specs.Words.{round_in}
 use Rattle.part_geometry.specs.Shape.{Shape}
 use Rattle.pair_core.specs.Words.{bit}

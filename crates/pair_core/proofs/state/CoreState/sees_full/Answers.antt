@@ -1,6 +1,6 @@
-use Rattle.std.proofs.Common.{◌≡◌, ◌↔◌, ◌∙◌, ◌%◌, ℕ, ap, sym, subst}
+use Rattle.std.proofs.Common.{◌↔◌, ◌∙◌, ℕ, ap, sym, subst}
 use Rattle.std.specs.Prelude.{IsTrue}
-use Rattle.pair_core.specs.Names.{Piece, number}
+use Rattle.pair_core.specs.Names.{Piece}
 use Rattle.pair_core.specs.Reading.{IsFull}
 use Rattle.pair_core.proofs.state.CoreState.sees_full.Goals as goal
 

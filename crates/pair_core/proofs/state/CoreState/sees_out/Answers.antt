@@ -1,5 +1,4 @@
-use Rattle.std.proofs.Common.{◌≡◌, ◌<◌, refl, sym, true≢false, below_more, arith}
-use Rattle.part_geometry.specs.Pieces.{pieces}
+use Rattle.std.proofs.Common.{refl, sym, true≢false, below_more, arith}
 use Rattle.pair_core.proofs.StateSeats.{send_at}
 use Rattle.pair_core.proofs.state.CoreState.sees_out.Goals as goal
 

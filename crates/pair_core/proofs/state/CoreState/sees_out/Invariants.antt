@@ -1,4 +1,4 @@
-use Rattle.std.proofs.Common.{◌≡◌, ◌<◌, ◌%◌, ℕ}
+use Rattle.std.proofs.Common.{◌<◌, ◌%◌, ℕ}
 use Rattle.pair_core.specs.Names.{Piece}
 use Rattle.pair_core.specs.Core.{Core}
 use Rattle.pair_core.specs.Reading.{IsFull}

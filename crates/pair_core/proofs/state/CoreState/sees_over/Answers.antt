@@ -1,4 +1,4 @@
-use Rattle.std.proofs.Common.{◌≡◌, ◌<◌, ◌∙◌, ◌%◌, ℕ, refl, sym, subst, ap, true≢false, below_more, arith}
+use Rattle.std.proofs.Common.{◌<◌, ◌%◌, ℕ, refl, sym, subst, true≢false, below_more, arith}
 use Rattle.part_geometry.specs.Cells.{cells}
 use Rattle.part_geometry.specs.Pieces.{piece_of, TouchesRecv}
 use Rattle.part_geometry.proofs.PieceFacts.{piece-ordered, piece_of-inside}

@@ -1,7 +1,6 @@
-use Rattle.std.proofs.Common.{◌≡◌, ◌∙◌, ℕ, ap, sym, subst, length}
+use Rattle.std.proofs.Common.{◌∙◌, ℕ, ap, sym, subst, length}
 use Rattle.pair_core.specs.Names.{put}
-use Rattle.pair_core.specs.Core.{Core}
-use Rattle.pair_core.specs.State.{Plain, IsView}
+use Rattle.pair_core.specs.State.{IsView}
 use Rattle.pair_core.proofs.StateSeats.{read_seat, at_seat, at_set, kept_set, seats_set, pends_else, pends_here}
 use Rattle.pair_core.proofs.state.CoreState.set_pending.Goals as goal
 

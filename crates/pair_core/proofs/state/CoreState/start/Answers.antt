@@ -1,11 +1,10 @@
-use Rattle.std.proofs.Common.{◌≡◌, ◌∙◌, ◌*◌, List, length, refl, sym, subst, ap}
+use Rattle.std.proofs.Common.{◌≡◌, ◌∙◌, ◌*◌, length, refl, subst, ap}
 use Rattle.std.specs.Prelude.{replicate}
 use Rattle.std.proofs.lemmas.List.{length-replicate}
 use Rattle.part_geometry.specs.Shape.{Shape}
 use Rattle.part_geometry.specs.Cells.{cells}
 use Rattle.pair_core.specs.Moves.{first_state}
 use Rattle.pair_core.specs.State.{Plain, Stands}
-use Rattle.pair_core.specs.declared.seat.Spot.{Spot}
 use Rattle.pair_core.specs.declared.seat.Spot.TheVariants.{Filled}
 use Rattle.pair_core.proofs.StateFirst.{first_kept, first_stands}
 use Rattle.pair_core.proofs.state.CoreState.start.Goals as goal
@@ -15,8 +14,10 @@ invariant_of-result c =
     let g = c.in_ok-tables.tables in let s = c.in_ok-seats.ensures in
     let count : c.depth.result * c.cells.result ≡ g.depth * cells g = rw (c.depth.ensures.value, c.cells.ensures.value, c.geometry.ensures.value) refl in
     let spots : c.in_ok-slots.slots.items ≡ replicate (g.depth * cells g) (Filled 0) = c.in_ok-slots.ensures.items_if_clones_equal (λ y h. h) ∙ ap (λ n. replicate n (Filled 0)) count in
-    record { kept = first_kept g c.in_ok-words.words.items c.in_ok-slots.slots.items _ _ c.in_ok-seats.seats.items s.0 s.1 s.2 c.in_ok-words.ensures.size
-        (ap length spots ∙ length-replicate (g.depth * cells g) (Filled 0)) refl refl refl refl s.3 s.4 s.5 s.6 }
+    record {
+      kept = first_kept g c.in_ok-words.words.items c.in_ok-slots.slots.items _ _ c.in_ok-seats.seats.items s.0 s.1 s.2 c.in_ok-words.ensures.size
+          (ap length spots ∙ length-replicate (g.depth * cells g) (Filled 0)) refl refl refl refl s.3 s.4 s.5 s.6;
+    }
 
 pub returns-clause-first : goal.returns-clause-first
 returns-clause-first c =
@@ -24,6 +25,6 @@ returns-clause-first c =
     let count : c.depth.result * c.cells.result ≡ g.depth * cells g = rw (c.depth.ensures.value, c.cells.ensures.value, c.geometry.ensures.value) refl in
     let spots : c.in_ok-slots.slots.items ≡ replicate (g.depth * cells g) (Filled 0) = c.in_ok-slots.ensures.items_if_clones_equal (λ y h. h) ∙ ap (λ n. replicate n (Filled 0)) count in
     subst (λ (z : Shape). Stands g c.in_ok-words.words.items c.in_ok-slots.slots.items record { round = 0; pieces = c.pieces.result; opened = c.claim_words.result; shut = c.claim_words-2.result; markers = 0 }
-        record { round = 0; returns = c.take_words.result; takes = c.take_words-2.result; released = 1; watchers = 0 } c.in_ok-seats.seats.items c.new.result (first_state {A = Plain} z)) c.in_ok-tables.ensures
+    record { round = 0; returns = c.take_words.result; takes = c.take_words-2.result; released = 1; watchers = 0 } c.in_ok-seats.seats.items c.new.result (first_state {A = Plain} z)) c.in_ok-tables.ensures
     (first_stands g c.in_ok-words.words.items c.in_ok-slots.slots.items _ _ c.in_ok-seats.seats.items c.new.result s.0 s.1 s.2 c.in_ok-words.ensures.words spots
-        (rw (c.pieces.ensures.value, c.claim_words.ensures.value, c.claim_words-2.ensures.value) refl) (rw (c.take_words.ensures.value, c.take_words-2.ensures.value) refl) c.new.ensures s.3 s.4 s.5 s.6)
+    (rw (c.pieces.ensures.value, c.claim_words.ensures.value, c.claim_words-2.ensures.value) refl) (rw (c.take_words.ensures.value, c.take_words-2.ensures.value) refl) c.new.ensures s.3 s.4 s.5 s.6)

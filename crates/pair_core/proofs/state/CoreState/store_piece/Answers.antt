@@ -1,7 +1,6 @@
-use Rattle.std.proofs.Common.{◌≡◌, ◌%◌, ℕ, refl, sym, ap, ◌∙◌, arith}
+use Rattle.std.proofs.Common.{◌%◌, ℕ, refl, sym, ap, ◌∙◌, arith}
 use Rattle.pair_core.specs.Names.{Piece, number}
-use Rattle.pair_core.specs.Moves.{Move, IsAllowed, StorePiece}
-use Rattle.pair_core.specs.State.{Plain}
+use Rattle.pair_core.specs.Moves.{IsAllowed, StorePiece}
 use Rattle.pair_core.specs.Shows.{Shows}
 use Rattle.pair_core.proofs.StateSeats.{send_at}
 use Rattle.pair_core.proofs.StateReads.{reads_1}

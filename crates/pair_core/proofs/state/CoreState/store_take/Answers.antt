@@ -1,5 +1,5 @@
-use Rattle.std.proofs.Common.{◌≡◌, ◌<◌, ◌-◌, ◌==◌, ◌+◌, sym, refl, arith}
-use Rattle.pair_core.specs.Names.{Take, number, take_words, claim_words}
+use Rattle.std.proofs.Common.{◌≡◌, ◌-◌, ◌==◌, ◌+◌, sym, refl, arith}
+use Rattle.pair_core.specs.Names.{Take, number, take_words}
 use Rattle.pair_core.specs.Moves.{StoreTake}
 use Rattle.pair_core.specs.History.{Listen}
 use Rattle.pair_core.specs.Shows.{Shows}

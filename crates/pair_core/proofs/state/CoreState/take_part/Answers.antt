@@ -1,4 +1,4 @@
-use Rattle.std.proofs.Common.{◌≡◌, ◌∷◌, ◌<◌, ◌/◌, ◌%◌, ◌∙◌, ℕ, List, Some, None, refl, sym, subst, ap, true≢false, arith}
+use Rattle.std.proofs.Common.{◌∷◌, ◌<◌, ◌/◌, ◌%◌, ◌∙◌, ℕ, List, Some, None, refl, sym, subst, ap, true≢false, arith}
 use Rattle.part_geometry.specs.Shape.{Shape}
 use Rattle.pair_core.specs.Names.{Take, Fits, number, take_words}
 use Rattle.pair_core.specs.Moves.{TakePart, IsAllowed, AreSeen}

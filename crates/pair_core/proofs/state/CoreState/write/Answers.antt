@@ -1,4 +1,4 @@
-use Rattle.std.proofs.Common.{◌≡◌, ap, sym, subst, List, ◌∙◌}
+use Rattle.std.proofs.Common.{ap, sym, subst, List, ◌∙◌}
 use Rattle.part_geometry.specs.Shape.{Shape}
 use Rattle.pair_core.specs.Names.{Fits, number}
 use Rattle.pair_core.specs.State.{IsAt}

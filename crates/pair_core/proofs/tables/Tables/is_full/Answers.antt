@@ -1,7 +1,5 @@
-use Rattle.std.proofs.Common.{◌≡◌, arith, ◌<◌, refl, sym, true≢false}
-use Rattle.std.specs.Prelude.{IsTrue}
+use Rattle.std.proofs.Common.{arith, refl, sym, true≢false}
 use Rattle.part_geometry.proofs.PieceFacts.{need_count-le}
-use Rattle.part_geometry.specs.Pieces.{need_count}
 use Rattle.part_geometry.specs.Shape.{IsShape}
 use Rattle.std.proofs.Common.{subst}
 use Rattle.pair_core.proofs.StateFull.{bits_full, full_bit}

@@ -1,5 +1,5 @@
-use Rattle.std.proofs.Common.{◌≡◌, ◌<◌, ◌≤◌, ◌-◌, ◌*◌, ap, subst, refl, arith}
-use Rattle.part_geometry.specs.Shape.{Shape, IsShape}
+use Rattle.std.proofs.Common.{◌≡◌, ◌*◌, subst, refl, arith}
+use Rattle.part_geometry.specs.Shape.{IsShape}
 use Rattle.part_geometry.specs.Pieces.{pieces}
 use Rattle.pair_core.proofs.Cut.{some_pieces}
 use Rattle.pair_core.proofs.StateNumbers.{piece_there}
