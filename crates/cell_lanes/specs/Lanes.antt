@@ -1,6 +1,6 @@
--- The lanes of a vector of four cells.
+-- The lanes of a vector of two cells.
 use Rattle.std.specs.Prelude.{ℕ, ℤ, List, [], ◌∷◌}
 
--- f 0 to f 3
-abbrev pub four : (ℕ → ℤ) → List ℤ
-four f = f 0 ∷ f 1 ∷ f 2 ∷ f 3 ∷ []
+-- f 0 and f 1
+abbrev pub two : (ℕ → ℤ) → List ℤ
+two f = f 0 ∷ f 1 ∷ []

@@ -1,4 +1,5 @@
 pub mod Lanes
+pub mod Mirror
 pub mod Padding
 pub mod Reciprocal
 pub mod Sizes

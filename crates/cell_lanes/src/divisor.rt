@@ -1,6 +1,6 @@
 //! A divisor that is used for many sums.
 
-ghost use Rattle.std.specs.Prelude.{◌≡◌, ℤ, pos, ◌≤◌, ◌/◌, int_div, length, map};
+ghost use Rattle.std.specs.Prelude.{◌≡◌, ℤ, pos, ◌≤◌, ◌^◌, int_div, map, unsigned_abs};
 ghost use Rattle.std.specs.List.{All};
 ghost use Rattle.stencil_def.specs.Limits.{IsDiv, IsValue};
 ghost use Rattle.stencil_def.specs.Step.{clamped};
@@ -27,6 +27,26 @@ impl Model for Divisor {
     ghost view = { λ d. pos d.value };
 
     ghost invariant = { λ d. IsReciprocal d.value d.reciprocal d.shift };
+}
+
+/// A quotient of this size with the sign of the sum, clamped to -10^12 to 10^12.
+#[inline(always)]
+fn signed(size: u64, sum: i64) -> i64
+    ensures value { (d : ℤ) → IsDiv d → pos size ≡ int_div (pos (unsigned_abs sum)) d → result ≡ clamped (int_div sum d) }
+    ensures limits { IsValue result }
+{
+    let size = size.min(MAX_VALUE as u64) as i64;
+    if sum < 0 { -size } else { size }
+}
+
+/// A sum over a window, divided by this power of two with truncation toward zero, and clamped.
+#[inline(always)]
+fn shifted(sum: i64, shift: u32) -> i64
+    requires shift { 2 ^ shift ≤ 1000000 }
+    ensures value { result ≡ clamped (int_div sum (pos (2 ^ shift))) }
+    ensures limits { IsValue result }
+{
+    signed(sum.unsigned_abs() >> shift, sum)
 }
 
 impl Divisor {
@@ -63,18 +83,26 @@ impl Divisor {
         ensures value { result ≡ clamped (int_div sum self.now) }
         ensures limits { IsValue result }
     {
-        let size = self.rounded_down(sum.unsigned_abs()).min(MAX_VALUE as u64) as i64;
-        if sum < 0 { -size } else { size }
+        signed(self.rounded_down(sum.unsigned_abs()), sum)
     }
 
     /// Divides each sum of a row with truncation toward zero, and clamps it to -10^12 to 10^12.
+    ///
+    /// A divisor that is a power of two needs no product.
     pub fn quotients(&self, sums: &mut [i64])
         requires { All IsSum sums.old }
         ensures values { sums.new ≡ map (λ sum. clamped (int_div sum self.now)) sums.old }
         ensures limits { All IsValue sums.new }
     {
-        for x in 0..sums.len() {
-            sums[x] = self.quotient(sums[x]);
+        let shift = self.shift;
+        if self.value == 1 << shift {
+            for x in 0..sums.len() {
+                sums[x] = shifted(sums[x], shift);
+            }
+        } else {
+            for x in 0..sums.len() {
+                sums[x] = self.quotient(sums[x]);
+            }
         }
     }
 }

@@ -1,15 +1,18 @@
-//! The rows of the stencil, four cells at a time.
+//! The rows of the stencil, two cells at a time.
 #![tactic(auto)]
 
 mod divisor;
 mod lanes;
+mod mirrored;
 mod padded;
 mod row;
 mod run;
 mod sums;
 #[cfg(test)]
 mod tests;
+mod weights;
 
 pub use divisor::Divisor;
 pub use run::run_lanes;
 pub use sums::{new_cells, window_sums};
+pub use weights::LaneWeights;

@@ -7,7 +7,7 @@ ghost use Rattle.stencil_def.specs.Plane.{Plane, IsPlane, cell};
 ghost use Rattle.stencil_def.specs.Step.{new_cell};
 ghost use Rattle.cell_lanes.specs.Padding.{with_ends, or_edge, end_or, row_value, IsPadded, RowsAre};
 
-use crate::Divisor;
+use crate::{Divisor, LaneWeights};
 use crate::row::{copied_row, next_row, place_at};
 use std::alloc::{AllocError, Global};
 use stencil_def::{Grid, Rule};
@@ -113,13 +113,22 @@ fn copy_rows(grid: &Grid, rule: &Rule, values: &mut [i64])
 }
 
 /// Computes the rows of the next grid, with their ends.
-fn next_rows(values: &[i64], rule: &Rule, divisor: &Divisor, rows: u32, cols: u32, next: &mut [i64])
+fn next_rows(
+    values: &[i64],
+    rule: &Rule,
+    weights: &LaneWeights,
+    divisor: &Divisor,
+    rows: u32,
+    cols: u32,
+    next: &mut [i64],
+)
     requires rows { IsWithin 1 4096 rows }
     requires cols { IsWithin 1 4096 cols }
     requires length { length values.now ≡ with_ends rule.now rows * with_ends rule.now cols }
     requires same_length { length next.old ≡ length values.now }
     requires values { All IsValue values.now }
     requires next_values { All IsValue next.old }
+    requires weights { weights.now ≡ rule.now.weights }
     requires divisor { divisor.now ≡ rule.now.div }
     ensures rows { (g : Plane) → g.rows ≡ rows → g.cols ≡ cols → IsPadded (cell g) rule.now rows cols values.now →
         RowsAre (new_cell g rule.now) rule.now cols next.new rows }
@@ -134,6 +143,7 @@ fn next_rows(values: &[i64], rule: &Rule, divisor: &Divisor, rows: u32, cols: u3
         next_row(
             window,
             rule,
+            weights,
             divisor,
             cols,
             &mut next[start..start + width as usize],
@@ -168,6 +178,7 @@ pub(crate) fn padded(alloc: Global, grid: &Grid, rule: &Rule) -> Result<Vec<i64>
 pub(crate) fn next_padded(
     values: &[i64],
     rule: &Rule,
+    weights: &LaneWeights,
     divisor: &Divisor,
     rows: u32,
     cols: u32,
@@ -179,12 +190,13 @@ pub(crate) fn next_padded(
     requires same_length { length next.old ≡ length values.now }
     requires values { All IsValue values.now }
     requires next_values { All IsValue next.old }
+    requires weights { weights.now ≡ rule.now.weights }
     requires divisor { divisor.now ≡ rule.now.div }
     ensures padded { (g : Plane) → g.rows ≡ rows → g.cols ≡ cols → IsPadded (cell g) rule.now rows cols values.now →
         IsPadded (new_cell g rule.now) rule.now rows cols next.new }
     ensures values { All IsValue next.new }
 {
-    next_rows(values, rule, divisor, rows, cols, next);
+    next_rows(values, rule, weights, divisor, rows, cols, next);
     set_all_end_rows(rule, rows, cols, next);
 }
 

@@ -7,7 +7,7 @@ ghost use Rattle.stencil_def.specs.Square.{side};
 ghost use Rattle.stencil_def.specs.Step.{place};
 ghost use Rattle.cell_lanes.specs.Padding.{with_ends, new_at, end_or};
 
-use crate::{Divisor, new_cells};
+use crate::{Divisor, LaneWeights, new_cells};
 use stencil_def::{Around, Rule};
 
 /// Which of `size` rows or columns stands at the place `at`, where `reach` places stand before the first.
@@ -60,10 +60,18 @@ fn set_ends(rule: &Rule, cols: u32, from: u32, to: u32, row: &mut [i64])
 }
 
 /// Puts the new values of a row into the middle of `row`, and the ends that follow from them round it.
-pub(crate) fn next_row(window: &[i64], rule: &Rule, divisor: &Divisor, cols: u32, row: &mut [i64])
+pub(crate) fn next_row(
+    window: &[i64],
+    rule: &Rule,
+    weights: &LaneWeights,
+    divisor: &Divisor,
+    cols: u32,
+    row: &mut [i64],
+)
     requires cols { IsWithin 1 4096 cols }
     requires window { length window.now ≡ side rule.now.weights * with_ends rule.now cols }
     requires values { All IsValue window.now }
+    requires weights { weights.now ≡ rule.now.weights }
     requires divisor { divisor.now ≡ rule.now.div }
     requires row { length row.old ≡ with_ends rule.now cols }
     requires old { All IsValue row.old }
@@ -75,7 +83,7 @@ pub(crate) fn next_row(window: &[i64], rule: &Rule, divisor: &Divisor, cols: u32
     let reach = rule.weights.reach();
     let end = reach + cols;
     let middle = &mut row[reach as usize..end as usize];
-    new_cells(window, end + reach, &rule.weights, divisor, middle);
+    new_cells(window, end + reach, weights, divisor, middle);
     set_ends(rule, cols, 0, reach, row);
     set_ends(rule, cols, end, end + reach, row);
 }

@@ -4,7 +4,7 @@ ghost use Rattle.std.specs.Prelude.{◌≡◌, IfOk};
 ghost use Rattle.stencil_def.specs.Plane.{IsPlane};
 ghost use Rattle.stencil_def.specs.Step.{fold_plane};
 
-use crate::Divisor;
+use crate::{Divisor, LaneWeights};
 use crate::padded::{middle, next_padded, padded, zeros};
 use std::alloc::{AllocError, Global};
 use std::mem;
@@ -18,11 +18,12 @@ pub fn run_lanes(alloc: Global, grid: &Grid, rule: &Rule, steps: u32) -> Result<
     ensures limits { IfOk result IsPlane }
 {
     let (rows, cols) = (grid.rows(), grid.cols());
+    let weights = LaneWeights::new(rule.weights);
     let divisor = Divisor::new(rule.div);
     let mut last = padded(alloc, grid, rule)?;
     let mut next = zeros(alloc, last.len())?;
     for _step in 0..steps {
-        next_padded(&last, rule, &divisor, rows, cols, &mut next);
+        next_padded(&last, rule, &weights, &divisor, rows, cols, &mut next);
         mem::swap(&mut last, &mut next);
     }
     middle(alloc, &last, rule, rows, cols)

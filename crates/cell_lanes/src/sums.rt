@@ -1,61 +1,62 @@
 //! The weighted sums of a row.
 
-ghost use Rattle.std.specs.Prelude.{◌≡◌, ℕ, ◌+◌, ◌*◌, ◌<◌, ◌≤◌, ◌*ℤ◌, pos, int_div, length, slice_index_or, unsigned_abs};
+ghost use Rattle.std.specs.Prelude.{◌≡◌, ℕ, ◌+◌, ◌*◌, ◌<◌, ◌≤◌, ◌*ℤ◌, true, pos, int_div, length, slice_index_or, unsigned_abs};
 ghost use Rattle.std.specs.List.{All};
 ghost use Rattle.stencil_def.specs.Limits.{IsWeight, IsValue};
 ghost use Rattle.stencil_def.specs.Square.{side};
 ghost use Rattle.stencil_def.specs.Step.{clamped};
-ghost use Rattle.cell_lanes.specs.Lanes.{four};
+ghost use Rattle.cell_lanes.specs.Lanes.{two};
+ghost use Rattle.cell_lanes.specs.Mirror.{IsMirrored};
 ghost use Rattle.cell_lanes.specs.Sizes.{IsSum, IsRowSum};
 ghost use Rattle.cell_lanes.specs.Window.{row_sum_at, sum_at};
 
-use crate::Divisor;
-use crate::lanes::{LANES, plus, times};
+use crate::lanes::{LANES, plus, times, values_met};
+use crate::mirrored::mirrored_sums_of_two;
+use crate::{Divisor, LaneWeights};
 use std::simd::prelude::*;
 use stencil_def::Weights;
 
-/// The sums over row `a` of the window, of the cells in columns `x` to `x + 3`.
+/// The sums over row `a` of the window, of the cells in columns `x` and `x + 1`.
 #[inline(always)]
-fn row_of_four(
+fn row_of_two(
     window: &[i64],
     width: usize,
-    weights: &Weights,
+    weights: &LaneWeights,
     reach: u32,
     x: usize,
     a: u32,
-) -> i64x4
+) -> i64x2
     requires window { length window.now ≡ side weights.now * width }
     requires values { All IsValue window.now }
     requires reach { reach ≡ weights.now.reach }
     requires near { reach ≤ 2 }
-    requires column { x + 4 + 2 * reach ≤ width }
+    requires columns { x + 2 + 2 * reach ≤ width }
     requires row { a < side weights.now }
-    ensures sums { result ≡ four (λ i. row_sum_at weights.now window.now width (x + i) a) }
+    ensures sums { result ≡ two (λ i. row_sum_at weights.now window.now width (x + i) a) }
     ensures limits { (i : ℕ) → IsRowSum (row_sum_at weights.now window.now width (x + i) a) }
 {
-    let start = a as usize * width + x;
-    let mut sums = i64x4::splat(0);
+    let mut sums = i64x2::splat(0);
     for b in 0..2 * reach + 1 {
-        let values = i64x4::from_slice(&window[start + b as usize..]);
-        sums = plus(sums, times(weights.at(a, b), values));
+        let values = values_met(window, width, x, a, b);
+        sums = plus(sums, times(weights.at(reach, a, b), values));
     }
     sums
 }
 
-/// The sums over the window, of the cells in columns `x` to `x + 3`.
+/// The sums over the window, of the cells in columns `x` and `x + 1`.
 #[inline(always)]
-fn sums_of_four(window: &[i64], width: usize, weights: &Weights, reach: u32, x: usize) -> i64x4
+fn sums_of_two(window: &[i64], width: usize, weights: &LaneWeights, reach: u32, x: usize) -> i64x2
     requires window { length window.now ≡ side weights.now * width }
     requires values { All IsValue window.now }
     requires reach { reach ≡ weights.now.reach }
     requires near { reach ≤ 2 }
-    requires column { x + 4 + 2 * reach ≤ width }
-    ensures sums { result ≡ four (λ i. sum_at weights.now window.now width (x + i)) }
+    requires columns { x + 2 + 2 * reach ≤ width }
+    ensures sums { result ≡ two (λ i. sum_at weights.now window.now width (x + i)) }
     ensures limits { (i : ℕ) → IsSum (sum_at weights.now window.now width (x + i)) }
 {
-    let mut sums = i64x4::splat(0);
+    let mut sums = i64x2::splat(0);
     for a in 0..2 * reach + 1 {
-        sums = plus(sums, row_of_four(window, width, weights, reach, x, a));
+        sums = plus(sums, row_of_two(window, width, weights, reach, x, a));
     }
     sums
 }
@@ -109,28 +110,92 @@ fn sum_of_one(window: &[i64], width: usize, weights: &Weights, reach: u32, x: us
     sum
 }
 
-/// The sums of all cells of the row: four at a time, and then one by one.
+/// The sums of all cells of the row: two at a time, and then one by one.
 #[inline(always)]
-fn sums_at_reach(window: &[i64], width: usize, weights: &Weights, reach: u32, out: &mut [i64])
+fn sums_at_reach(
+    window: &[i64],
+    width: usize,
+    weights: &LaneWeights,
+    reach: u32,
+    is_mirrored: bool,
+    out: &mut [i64],
+)
     requires window { length window.now ≡ side weights.now * width }
     requires values { All IsValue window.now }
     requires reach { reach ≡ weights.now.reach }
     requires near { reach ≤ 2 }
+    requires mirrored { is_mirrored ≡ true → IsMirrored weights.now }
     requires out { length out.old + 2 * reach ≡ width }
     ensures sums { (x : ℕ) → x < length out.old → slice_index_or out.new x (pos 0) ≡ sum_at weights.now window.now width x }
     ensures limits { All IsSum out.new }
 {
     let mut x = 0;
     while out.len() - x >= LANES {
-        sums_of_four(window, width, weights, reach, x).copy_to_slice(&mut out[x..]);
+        let sums = if is_mirrored {
+            mirrored_sums_of_two(window, width, weights, reach, x)
+        } else {
+            sums_of_two(window, width, weights, reach, x)
+        };
+        sums.copy_to_slice(&mut out[x..]);
         x += LANES;
     }
     for rest in x..out.len() {
-        out[rest] = sum_of_one(window, width, weights, reach, rest);
+        out[rest] = sum_of_one(window, width, weights.weights(), reach, rest);
     }
 }
 
-/// The plain weighted sums of a row, four cells at a time and the rest one by one.
+/// The sums of all cells of the row, with a loop of its own for mirrored weights.
+///
+/// The weights come from memory that this function doesn't make, so that a compiler keeps their vectors.
+#[inline(never)]
+fn sums_near(window: &[i64], width: usize, weights: &LaneWeights, out: &mut [i64])
+    requires window { length window.now ≡ side weights.now * width }
+    requires values { All IsValue window.now }
+    requires reach { weights.now.reach ≡ 1 }
+    requires out { length out.old + 2 ≡ width }
+    ensures sums { (x : ℕ) → x < length out.old → slice_index_or out.new x (pos 0) ≡ sum_at weights.now window.now width x }
+    ensures limits { All IsSum out.new }
+{
+    if weights.is_mirrored() {
+        sums_at_reach(window, width, weights, 1, true, out);
+    } else {
+        sums_at_reach(window, width, weights, 1, false, out);
+    }
+}
+
+/// The same where the weights reach two rows and columns.
+#[inline(never)]
+fn sums_far(window: &[i64], width: usize, weights: &LaneWeights, out: &mut [i64])
+    requires window { length window.now ≡ side weights.now * width }
+    requires values { All IsValue window.now }
+    requires reach { weights.now.reach ≡ 2 }
+    requires out { length out.old + 4 ≡ width }
+    ensures sums { (x : ℕ) → x < length out.old → slice_index_or out.new x (pos 0) ≡ sum_at weights.now window.now width x }
+    ensures limits { All IsSum out.new }
+{
+    if weights.is_mirrored() {
+        sums_at_reach(window, width, weights, 2, true, out);
+    } else {
+        sums_at_reach(window, width, weights, 2, false, out);
+    }
+}
+
+/// The plain weighted sums of a row, two cells at a time and the last of an odd number by itself.
+fn row_sums(window: &[i64], width: u32, weights: &LaneWeights, out: &mut [i64])
+    requires window { length window.now ≡ side weights.now * width }
+    requires values { All IsValue window.now }
+    requires out { length out.old + 2 * weights.now.reach ≡ width }
+    ensures sums { (x : ℕ) → x < length out.old → slice_index_or out.new x (pos 0) ≡ sum_at weights.now window.now width x }
+    ensures limits { All IsSum out.new }
+{
+    if weights.weights().reach() == 1 {
+        sums_near(window, width as usize, weights, out);
+    } else {
+        sums_far(window, width as usize, weights, out);
+    }
+}
+
+/// The plain weighted sums of a row, two cells at a time and the last of an odd number by itself.
 ///
 /// The window is the rows round it, each with the reach of the weights more columns at both sides. Place x of `out`
 /// becomes the sum over a and b of `weights.at(a, b)` times the value in row a and column x + b of the window. Each
@@ -142,19 +207,13 @@ pub fn window_sums(window: &[i64], width: u32, weights: &Weights, out: &mut [i64
     ensures sums { (x : ℕ) → x < length out.old → slice_index_or out.new x (pos 0) ≡ sum_at weights.now window.now width x }
     ensures limits { All IsSum out.new }
 {
-    // A copy of its own, which no write to the sums can change, stays in registers.
-    let own = *weights;
-    if own.reach() == 1 {
-        sums_at_reach(window, width as usize, &own, 1, out);
-    } else {
-        sums_at_reach(window, width as usize, &own, 2, out);
-    }
+    row_sums(window, width, &LaneWeights::new(*weights), out);
 }
 
 /// The new values of a row: its weighted sums, divided with truncation toward zero and clamped to -10^12 to 10^12.
 ///
 /// The window and `out` are those of `window_sums`.
-pub fn new_cells(window: &[i64], width: u32, weights: &Weights, divisor: &Divisor, out: &mut [i64])
+pub fn new_cells(window: &[i64], width: u32, weights: &LaneWeights, divisor: &Divisor, out: &mut [i64])
     requires window { length window.now ≡ side weights.now * width }
     requires values { All IsValue window.now }
     requires out { length out.old + 2 * weights.now.reach ≡ width }
@@ -162,6 +221,6 @@ pub fn new_cells(window: &[i64], width: u32, weights: &Weights, divisor: &Diviso
         slice_index_or out.new x (pos 0) ≡ clamped (int_div (sum_at weights.now window.now width x) divisor.now) }
     ensures limits { All IsValue out.new }
 {
-    window_sums(window, width, weights, out);
+    row_sums(window, width, weights, out);
     divisor.quotients(out);
 }
