@@ -2,7 +2,9 @@ pub mod FoldFacts
 pub mod FourFacts
 pub mod LaneFacts
 pub mod MapFacts
+pub mod ProductFacts
 pub mod RowFacts
+pub mod SplitFacts
 pub mod PaddedFacts
 pub mod ReciprocalFacts
 pub mod WindowFacts

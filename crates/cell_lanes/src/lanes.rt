@@ -32,6 +32,7 @@ pub(crate) fn values_met(window: &[i64], width: usize, x: usize, a: u32, b: u32)
 /// one. The weight goes through 32 bits, from which a compiler sees that it fits them.
 #[inline(always)]
 pub(crate) fn times(weight: i64x2, values: i64x2) -> i64x2
+    requires lanes { (length weight ≡ 2) × (length values ≡ 2) }
     requires weight { Each1 IsWeight weight }
     requires values { Each1 IsAlike values }
     ensures { result ≡ zip2 (λ w v. w *ℤ v) weight values }

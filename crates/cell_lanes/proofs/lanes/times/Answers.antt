@@ -1,8 +1,18 @@
-use Rattle.cell_lanes.proofs.LaneFacts.{products-fit, products-are}
+use Rattle.std.proofs.Common.{length}
+use Rattle.cell_lanes.proofs.SplitFacts.{lows-fit, highs-fit, raised-fit, sums-fit, sums-are}
 use Rattle.cell_lanes.proofs.lanes.times.Goals as goal
 
 pub overflow_mul-result : goal.overflow_mul-result
-overflow_mul-result c = products-fit c.args.weight 4 c.args.values c.requires.weight c.requires.values
+overflow_mul-result c = lows-fit c.args.weight c.args.values c.requires.lanes c.requires.weight c.requires.values
+
+pub overflow_mul-result-2 : goal.overflow_mul-result-2
+overflow_mul-result-2 c = highs-fit c.args.weight c.args.values c.requires.lanes c.requires.weight c.requires.values
+
+pub overflow_mul-result-3 : goal.overflow_mul-result-3
+overflow_mul-result-3 c = raised-fit c.args.weight c.args.values c.requires.lanes c.requires.weight c.requires.values
+
+pub overflow_add-result : goal.overflow_add-result
+overflow_add-result c = sums-fit c.args.weight c.args.values c.requires.lanes c.requires.weight c.requires.values
 
 pub returns : goal.returns
-returns c = products-are c.args.weight 4 c.args.values c.requires.weight c.requires.values c.requires.four
+returns c = sums-are c.args.weight c.args.values c.requires.lanes c.requires.weight c.requires.values
