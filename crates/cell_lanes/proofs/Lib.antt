@@ -1,5 +1,5 @@
 pub mod FoldFacts
-pub mod FourFacts
+pub mod TwoFacts
 pub mod LaneFacts
 pub mod MapFacts
 pub mod ProductFacts

@@ -12,10 +12,10 @@ use Rattle.stencil_def.specs.Square.{Square, weight}
 use Rattle.stencil_def.specs.Step.{sum_below, clamped}
 use Rattle.stencil_def.proofs.SumFacts.{sum-more, sum-small}
 use Rattle.cell_lanes.specs.Window.{met, row_sum_at, sum_at}
-use Rattle.cell_lanes.specs.Lanes.{four}
+use Rattle.cell_lanes.specs.Lanes.{two}
 use Rattle.cell_lanes.specs.Sizes.{IsSum, IsRowSum}
 use Rattle.cell_lanes.proofs.LaneFacts.{back, product-size}
-use Rattle.cell_lanes.proofs.FourFacts.{four-at, four-same, four-all, four-back, chunk-four, products-four, added-four}
+use Rattle.cell_lanes.proofs.TwoFacts.{two-at, two-same, two-all, two-back, chunk-two, added}
 
 -- by cases on the order of two numbers
 pub below-or : {P : Type 0} (x n : ℕ) → (x < n → P) → (n ≤ x → P) → P
@@ -45,70 +45,52 @@ row-more w window width x a n t e p h small =
     let product : unsigned_abs (weight w a n *ℤ v) ≤ 1000000000000000 = rw (sym e) (product-size t v p (value-at window (a * width + (x + n)) h)) in
     rw (sum-more n (λ b. product_at w window width x a b)) (sum-small (row_below w window width x a n) (weight w a n *ℤ v) n 1000000000000000 small product)
 
--- four neighbouring values, as the weights meet them
-pub met-four : (window : List ℤ) (width x a n at : ℕ) → at ≡ a * width + x + n → at + 4 ≤ length window
-    → chunk at 4 window ≡ four (λ i. met window width (x + i) a n)
-met-four window width x a n at e h =
-    chunk-four window at h
-    ∙ four-same (λ i. get_or window (at + i) (pos 0)) (λ i. met window width (x + i) a n)
+-- two neighbouring values, as the weights meet them
+pub met-two : (window : List ℤ) (width x a n at : ℕ) → at ≡ a * width + x + n → at + 2 ≤ length window
+    → chunk at 2 window ≡ two (λ i. met window width (x + i) a n)
+met-two window width x a n at e h =
+    chunk-two window at h
+    ∙ two-same (λ i. get_or window (at + i) (pos 0)) (λ i. met window width (x + i) a n)
     (λ i. let same : at + i ≡ a * width + (x + i + n) = omega arith in ap (λ k. get_or window k (pos 0)) same)
 
--- one more weight of a row, in four lanes
-pub row-next : (w : Square) (window : List ℤ) (width x a n at : ℕ) (t : ℤ) (sums : List ℕ) (product total : List ℤ)
-    → map (to_z w64) sums ≡ four (λ i. row_below w window width (x + i) a n)
+-- one more weight of a row, in two lanes
+pub row-next : (w : Square) (window : List ℤ) (width x a n : ℕ) (sums products total : List ℤ)
+    → sums ≡ two (λ i. row_below w window width (x + i) a n)
     → ((i : ℕ) → unsigned_abs (row_below w window width (x + i) a (n + 1)) ≤ (n + 1) * 1000000000000000)
-    → n < 5 → t ≡ weight w a n → IsWeight t → All IsValue window
-    → at ≡ a * width + x + n → at + 4 ≤ length window
-    → product ≡ map (λ z. to_z w64 (of_z w64 t) *ℤ z) (map (to_z w64) (map (of_z w64) (chunk at 4 window)))
-    → total ≡ zip2 (λ a b. a +ℤ b) (map (to_z w64) sums) (map (to_z w64) (map (of_z w64) product))
-    → map (to_z w64) (map (of_z w64) total) ≡ four (λ i. row_below w window width (x + i) a (n + 1))
-row-next w window width x a n at t sums product total is small few e p h place room times plus =
-    let v : ℕ → ℤ = λ i. met window width (x + i) a n in
-    let value : (i : ℕ) → IsValue (v i) = λ i. value-at window (a * width + (x + i + n)) h in
-    let four-products : product ≡ four (λ i. t *ℤ v i) = products-four t (chunk at 4 window) product v (met-four window width x a n at place room) p value times in
-    let more : (i : ℕ) → row_below w window width (x + i) a (n + 1) ≡ row_below w window width (x + i) a n +ℤ t *ℤ v i =
-    λ i. rw e (sum-more n (λ b. product_at w window width (x + i) a b)) in
-    let fits : (i : ℕ) → IsSum (row_below w window width (x + i) a n +ℤ t *ℤ v i) =
-    λ i. rw (sym (more i)) (let s = small i in omega arith) in
-    added-four sums product total (λ i. row_below w window width (x + i) a n) (λ i. t *ℤ v i) is four-products
-    (λ i. let s = product-size t (v i) p (value i) in omega arith) fits plus
-    ∙ four-same (λ i. row_below w window width (x + i) a n +ℤ t *ℤ v i) (λ i. row_below w window width (x + i) a (n + 1)) (λ i. sym (more i))
+    → n < 5 → products ≡ two (λ i. product_at w window width (x + i) a n)
+    → total ≡ zip2 (λ a b. a +ℤ b) sums products
+    → map (to_z w64) (map (of_z w64) total) ≡ two (λ i. row_below w window width (x + i) a (n + 1))
+row-next w window width x a n sums products total is small few new plus =
+    let more : (i : ℕ) → row_below w window width (x + i) a (n + 1) ≡ row_below w window width (x + i) a n +ℤ product_at w window width (x + i) a n =
+    λ i. sum-more n (λ b. product_at w window width (x + i) a b) in
+    added sums products total (λ i. row_below w window width (x + i) a n) (λ i. product_at w window width (x + i) a n)
+    (λ i. row_below w window width (x + i) a (n + 1)) is new (λ i. sym (more i)) (λ i. let s = small i in omega arith) plus
 
--- four values from one that a weight meets stand before the window's end
-pub room : (width a x b reach h size : ℕ) → size ≡ (2 * h + 1) * width → reach ≡ h → a < 2 * h + 1 → x + 4 + 2 * reach ≤ width → b < 2 * reach + 1
-    → a * width + x + b + 4 ≤ size
+-- two values from one that a weight meets stand before the window's end
+pub room : (width a x b reach h size : ℕ) → size ≡ (2 * h + 1) * width → reach ≡ h → a < 2 * h + 1 → x + 2 + 2 * reach ≤ width → b < 2 * reach + 1
+    → a * width + x + b + 2 ≤ size
 room width a x b reach h size e same row column below =
     let m = mul-le (a + 1) width (2 * h + 1) width (omega arith) (omega arith) in
     omega (arith, m)
 
--- one more row, in four lanes
-pub rows-next : (w : Square) (window : List ℤ) (width x n : ℕ) (sums : List ℕ) (row total : List ℤ)
-    → map (to_z w64) sums ≡ four (λ i. rows_below w window width (x + i) n)
+-- one more row, in two lanes
+pub rows-next : (w : Square) (window : List ℤ) (width x n : ℕ) (sums row total : List ℤ)
+    → sums ≡ two (λ i. rows_below w window width (x + i) n)
     → ((i : ℕ) → unsigned_abs (rows_below w window width (x + i) (n + 1)) ≤ (n + 1) * 5000000000000000)
-    → n < 5 → ((i : ℕ) → IsRowSum (row_sum_at w window width (x + i) n))
-    → row ≡ four (λ i. row_sum_at w window width (x + i) n)
-    → total ≡ zip2 (λ a b. a +ℤ b) (map (to_z w64) sums) (map (to_z w64) (map (of_z w64) row))
-    → map (to_z w64) (map (of_z w64) total) ≡ four (λ i. rows_below w window width (x + i) (n + 1))
-rows-next w window width x n sums row total is small few size new plus =
+    → n < 5 → row ≡ two (λ i. row_sum_at w window width (x + i) n)
+    → total ≡ zip2 (λ a b. a +ℤ b) sums row
+    → map (to_z w64) (map (of_z w64) total) ≡ two (λ i. rows_below w window width (x + i) (n + 1))
+rows-next w window width x n sums row total is small few new plus =
     let more : (i : ℕ) → rows_below w window width (x + i) (n + 1) ≡ rows_below w window width (x + i) n +ℤ row_sum_at w window width (x + i) n =
     λ i. sum-more n (λ a. row_sum_at w window width (x + i) a) in
-    let fits : (i : ℕ) → IsSum (rows_below w window width (x + i) n +ℤ row_sum_at w window width (x + i) n) =
-    λ i. rw (sym (more i)) (let s = small i in omega arith) in
-    added-four sums row total (λ i. rows_below w window width (x + i) n) (λ i. row_sum_at w window width (x + i) n) is new size fits plus
-    ∙ four-same (λ i. rows_below w window width (x + i) n +ℤ row_sum_at w window width (x + i) n) (λ i. rows_below w window width (x + i) (n + 1)) (λ i. sym (more i))
+    added sums row total (λ i. rows_below w window width (x + i) n) (λ i. row_sum_at w window width (x + i) n)
+    (λ i. rows_below w window width (x + i) (n + 1)) is new (λ i. sym (more i)) (λ i. let s = small i in omega arith) plus
 
 pub rows-more : (w : Square) (window : List ℤ) (width x n : ℕ) → IsRowSum (row_sum_at w window width x n)
     → unsigned_abs (rows_below w window width x n) ≤ n * 5000000000000000
     → unsigned_abs (rows_below w window width x (n + 1)) ≤ (n + 1) * 5000000000000000
 rows-more w window width x n size small =
     rw (sum-more n (λ a. row_sum_at w window width x a)) (sum-small (rows_below w window width x n) (row_sum_at w window width x n) n 5000000000000000 small size)
-
--- a vector that stands for row sums in range
-pub sums-back : (vs : List ℤ) (s : ℕ → ℤ) → vs ≡ four s → ((i : ℕ) → IsRowSum (s i)) → Each1 IsSum (map (to_z w64) (map (of_z w64) vs))
-sums-back vs s e h =
-    let all : map (to_z w64) (map (of_z w64) vs) ≡ four s =
-    ap (λ xs. map (to_z w64) (map (of_z w64) xs)) e ∙ four-back s (λ k. let q = h k in omega arith) in
-    rw all (four-all IsSum s (λ k. let q = h k in omega arith))
 
 -- a product, as the code makes it
 pub product-met : (w : Square) (window : List ℤ) (width x a n : ℕ) (t p : ℤ) → t ≡ weight w a n → IsWeight t → All IsValue window
@@ -124,23 +106,20 @@ product-met w window width x a n t p e small h made =
 abbrev pub DoneBelow : Square → List ℤ → ℕ → List ℤ → ℕ → Type 0
 DoneBelow w window width out n = (x : ℕ) → x < n → (get_or out x (pos 0) ≡ sum_at w window width x) × IsSum (sum_at w window width x)
 
--- four more of them, stored at n
-pub done-four : (w : Square) (window : List ℤ) (width n : ℕ) (out lanes : List ℤ)
-    → DoneBelow w window width out n → n + 4 ≤ length out → lanes ≡ four (λ i. sum_at w window width (n + i))
+-- two more of them, stored at n
+pub done-two : (w : Square) (window : List ℤ) (width n : ℕ) (out lanes : List ℤ)
+    → DoneBelow w window width out n → n + 2 ≤ length out → lanes ≡ two (λ i. sum_at w window width (n + i))
     → ((i : ℕ) → IsSum (sum_at w window width (n + i)))
-    → DoneBelow w window width (put_chunk n out (map (to_z w64) (map (of_z w64) lanes))) (n + 4)
-done-four w window width n out lanes done size e small x less =
-    let sums = map (to_z w64) (map (of_z w64) lanes) in
-    let is : sums ≡ four (λ i. sum_at w window width (n + i)) =
-    ap (λ xs. map (to_z w64) (map (of_z w64) xs)) e ∙ four-back (λ i. sum_at w window width (n + i)) (λ i. let q = small i in omega arith) in
-    let long : length sums ≡ 4 = ap length is in
-    let below : x < n → (get_or (put_chunk n out sums) x (pos 0) ≡ sum_at w window width x) × IsSum (sum_at w window width x) =
-    λ h. (get_or-put_chunk_below n out sums x (pos 0) h ∙ (done x h).0, (done x h).1) in
-    let stored : (j : ℕ) → j < 4 → get_or (put_chunk n out sums) (n + j) (pos 0) ≡ sum_at w window width (n + j) =
-    λ j h. get_or-put_chunk_at n out sums j (pos 0) (omega arith) (omega arith) ∙ (ap (λ l. get_or l j (pos 0)) is ∙ four-at (λ i. sum_at w window width (n + i)) j h) in
-    let there : n ≤ x → (get_or (put_chunk n out sums) x (pos 0) ≡ sum_at w window width x) × IsSum (sum_at w window width x) =
+    → DoneBelow w window width (put_chunk n out lanes) (n + 2)
+done-two w window width n out lanes done size is small x less =
+    let long : length lanes ≡ 2 = ap length is in
+    let below : x < n → (get_or (put_chunk n out lanes) x (pos 0) ≡ sum_at w window width x) × IsSum (sum_at w window width x) =
+    λ h. (get_or-put_chunk_below n out lanes x (pos 0) h ∙ (done x h).0, (done x h).1) in
+    let stored : (j : ℕ) → j < 2 → get_or (put_chunk n out lanes) (n + j) (pos 0) ≡ sum_at w window width (n + j) =
+    λ j h. get_or-put_chunk_at n out lanes j (pos 0) (omega arith) (omega arith) ∙ (ap (λ l. get_or l j (pos 0)) is ∙ two-at (λ i. sum_at w window width (n + i)) j h) in
+    let there : n ≤ x → (get_or (put_chunk n out lanes) x (pos 0) ≡ sum_at w window width x) × IsSum (sum_at w window width x) =
     λ h. let same : n + (x - n) ≡ x = omega arith in
-    subst (λ m. (get_or (put_chunk n out sums) m (pos 0) ≡ sum_at w window width m) × IsSum (sum_at w window width m)) same (stored (x - n) (omega arith), small (x - n)) in
+    subst (λ m. (get_or (put_chunk n out lanes) m (pos 0) ≡ sum_at w window width m) × IsSum (sum_at w window width m)) same (stored (x - n) (omega arith), small (x - n)) in
     below-or x n below there
 
 -- one more of them

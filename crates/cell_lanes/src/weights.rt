@@ -1,6 +1,7 @@
 //! Weights that are multiplied with vectors.
 
 ghost use Rattle.std.specs.Prelude.{◌≡◌, ℕ, true, ◌<◌};
+ghost use Rattle.stencil_def.specs.Limits.{IsWeight};
 ghost use Rattle.stencil_def.specs.Square.{Square, side, weight};
 ghost use Rattle.cell_lanes.specs.Lanes.{two};
 ghost use Rattle.cell_lanes.specs.Mirror.{IsMirrored};
@@ -91,7 +92,8 @@ impl LaneWeights {
         requires reach { reach ≡ self.now.reach }
         requires row { a < side self.now }
         requires column { b < side self.now }
-        ensures { result ≡ two (λ i. weight self.now a b) }
+        ensures lanes { result ≡ two (λ i. weight self.now a b) }
+        ensures limits { IsWeight (weight self.now a b) }
     {
         let place = LANES * (a * (2 * reach + 1) + b) as usize;
         i64x2::from_slice(&self.lanes[place..])
