@@ -2,6 +2,7 @@ pub mod FoldFacts
 pub mod TwoFacts
 pub mod LaneFacts
 pub mod MapFacts
+pub mod MirrorFacts
 pub mod ProductFacts
 pub mod RowFacts
 pub mod SplitFacts

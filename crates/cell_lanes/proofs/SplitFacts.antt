@@ -130,7 +130,7 @@ spread-parts w h l m =
     let three = associate w h m in
     omega (arith, ints, whole, three)
 
-product-alike : (w v : ℤ) → IsWeight w → IsAlike v → unsigned_abs (w *ℤ v) ≤ 4000000000000000
+pub product-alike : (w v : ℤ) → IsWeight w → IsAlike v → unsigned_abs (w *ℤ v) ≤ 4000000000000000
 product-alike w v p q =
     let m = mul-le (unsigned_abs w) (unsigned_abs v) 1000 4000000000000 p q in
     rw (unsigned_abs-mul w v) m

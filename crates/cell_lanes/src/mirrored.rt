@@ -3,12 +3,11 @@
 
 ghost use Rattle.std.specs.Prelude.{◌≡◌, ℕ, ◌+◌, ◌*◌, ◌<◌, ◌≤◌, length};
 ghost use Rattle.std.specs.List.{All};
-ghost use Rattle.std.specs.Simd.Lanes.{Each1};
-ghost use Rattle.stencil_def.specs.Limits.{IsValue};
-ghost use Rattle.stencil_def.specs.Square.{side};
+ghost use Rattle.stencil_def.specs.Limits.{IsValue, IsWeight};
+ghost use Rattle.stencil_def.specs.Square.{weight};
 ghost use Rattle.cell_lanes.specs.Lanes.{two};
 ghost use Rattle.cell_lanes.specs.Mirror.{IsMirrored, row_alike, alike, alike_row_sum};
-ghost use Rattle.cell_lanes.specs.Sizes.{IsSum, IsAlike, IsPart};
+ghost use Rattle.cell_lanes.specs.Sizes.{IsSum, IsAlikeSum};
 ghost use Rattle.cell_lanes.specs.Window.{sum_at};
 
 use crate::LaneWeights;
@@ -70,7 +69,7 @@ fn alike_rows_of_two(
     requires columns { x + 2 + 2 * reach ≤ width }
     requires row { a ≤ reach }
     ensures sums { result ≡ two (λ i. alike_row_sum weights.now window.now width (x + i) a) }
-    ensures limits { Each1 IsPart result }
+    ensures limits { (i : ℕ) → IsAlikeSum (alike_row_sum weights.now window.now width (x + i) a) }
 {
     let mut sums = i64x2::splat(0);
     for b in 0..reach + 1 {
@@ -94,6 +93,7 @@ pub(crate) fn mirrored_sums_of_two(
     requires reach { reach ≡ weights.now.reach }
     requires near { reach ≤ 2 }
     requires columns { x + 2 + 2 * reach ≤ width }
+    requires weights { (a b : ℕ) → IsWeight (weight weights.now a b) }
     requires mirrored { IsMirrored weights.now }
     ensures sums { result ≡ two (λ i. sum_at weights.now window.now width (x + i)) }
     ensures limits { (i : ℕ) → IsSum (sum_at weights.now window.now width (x + i)) }

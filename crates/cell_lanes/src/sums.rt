@@ -3,7 +3,7 @@
 ghost use Rattle.std.specs.Prelude.{◌≡◌, ℕ, ◌+◌, ◌*◌, ◌<◌, ◌≤◌, ◌*ℤ◌, true, pos, int_div, length, slice_index_or, unsigned_abs};
 ghost use Rattle.std.specs.List.{All};
 ghost use Rattle.stencil_def.specs.Limits.{IsWeight, IsValue};
-ghost use Rattle.stencil_def.specs.Square.{side};
+ghost use Rattle.stencil_def.specs.Square.{side, weight};
 ghost use Rattle.stencil_def.specs.Step.{clamped};
 ghost use Rattle.cell_lanes.specs.Lanes.{two};
 ghost use Rattle.cell_lanes.specs.Mirror.{IsMirrored};
@@ -124,6 +124,7 @@ fn sums_at_reach(
     requires values { All IsValue window.now }
     requires reach { reach ≡ weights.now.reach }
     requires near { reach ≤ 2 }
+    requires weights { (a b : ℕ) → IsWeight (weight weights.now a b) }
     requires mirrored { is_mirrored ≡ true → IsMirrored weights.now }
     requires out { length out.old + 2 * reach ≡ width }
     ensures sums { (x : ℕ) → x < length out.old → slice_index_or out.new x (pos 0) ≡ sum_at weights.now window.now width x }
@@ -152,6 +153,7 @@ fn sums_near(window: &[i64], width: usize, weights: &LaneWeights, out: &mut [i64
     requires window { length window.now ≡ side weights.now * width }
     requires values { All IsValue window.now }
     requires reach { weights.now.reach ≡ 1 }
+    requires weights { (a b : ℕ) → IsWeight (weight weights.now a b) }
     requires out { length out.old + 2 ≡ width }
     ensures sums { (x : ℕ) → x < length out.old → slice_index_or out.new x (pos 0) ≡ sum_at weights.now window.now width x }
     ensures limits { All IsSum out.new }
@@ -169,6 +171,7 @@ fn sums_far(window: &[i64], width: usize, weights: &LaneWeights, out: &mut [i64]
     requires window { length window.now ≡ side weights.now * width }
     requires values { All IsValue window.now }
     requires reach { weights.now.reach ≡ 2 }
+    requires weights { (a b : ℕ) → IsWeight (weight weights.now a b) }
     requires out { length out.old + 4 ≡ width }
     ensures sums { (x : ℕ) → x < length out.old → slice_index_or out.new x (pos 0) ≡ sum_at weights.now window.now width x }
     ensures limits { All IsSum out.new }
@@ -188,7 +191,8 @@ fn row_sums(window: &[i64], width: u32, weights: &LaneWeights, out: &mut [i64])
     ensures sums { (x : ℕ) → x < length out.old → slice_index_or out.new x (pos 0) ≡ sum_at weights.now window.now width x }
     ensures limits { All IsSum out.new }
 {
-    if weights.weights().reach() == 1 {
+    let plain = weights.weights();
+    if plain.reach() == 1 {
         sums_near(window, width as usize, weights, out);
     } else {
         sums_far(window, width as usize, weights, out);

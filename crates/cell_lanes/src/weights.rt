@@ -74,7 +74,8 @@ impl LaneWeights {
 
     /// The weights themselves.
     pub(crate) fn weights(&self) -> &Weights
-        ensures { result.now ≡ self.now }
+        ensures same { result.now ≡ self.now }
+        ensures limits { (a b : ℕ) → IsWeight (weight self.now a b) }
     {
         &self.weights
     }
