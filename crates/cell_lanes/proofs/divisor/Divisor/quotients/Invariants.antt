@@ -9,3 +9,6 @@ invariant-loop-x l = record {
   limits : (k : ℕ) → k < l.x → IsValue (get_or l.sums k (pos 0));
   rest : (k : ℕ) → l.x ≤ k → get_or l.sums k (pos 0) ≡ get_or l.fn.sums k (pos 0);
 }
+
+abbrev pub invariant-loop-x-2 : goal.invariant-loop-x-2
+invariant-loop-x-2 l = ?
