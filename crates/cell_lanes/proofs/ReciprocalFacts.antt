@@ -95,3 +95,10 @@ shifted-one k h =
     let one : 1 * 2 ^ k ≡ 2 ^ k = omega arith in
     let size : 2 ^ k < 4294967296 = omega arith in
     ap (λ x. x % 4294967296) one ∙ mod-eq_of_lt size
+
+-- a divisor that is found to be a power of two
+pub power-small : (d m k : ℕ) → IsReciprocal d m k → 2 ^ k ≤ 1000000
+power-small d m k r = let least = r.least in let most = r.limits.1 in omega arith
+
+pub power-is : (d m k : ℕ) → IsReciprocal d m k → d ≡ 1 * 2 ^ k % 4294967296 → pos d ≡ pos (2 ^ k)
+power-is d m k r found = ap pos (found ∙ shifted-one k (power-small d m k r))
