@@ -4,5 +4,6 @@ pub mod LaneFacts
 pub mod MapFacts
 pub mod RowFacts
 pub mod PaddedFacts
+pub mod ReadyFacts
 pub mod ReciprocalFacts
 pub mod WindowFacts

@@ -29,6 +29,7 @@ alike_row_sum w window width x a = sum_below (w.reach + 1) (λ b. weight w a b *
 
 -- weights, each in two lanes, and whether they are known to be mirrored
 pub record AreReady (w : Square) (lanes : List ℤ) (is_mirrored : Bool) : Type 0 where
+  pub near : w.reach ≤ 2
   pub lanes_length : length lanes ≡ 50
   pub both_lanes : (k i : ℕ) → k < side w * side w → i < 2 → slice_index_or lanes (2 * k + i) (pos 0) ≡ slice_index_or w.values k (pos 0)
   pub mirrored : is_mirrored ≡ true → IsMirrored w

@@ -59,8 +59,9 @@ impl LaneWeights {
         for a in 0..side {
             for b in 0..side {
                 let place = LANES * (a * side + b) as usize;
-                lanes[place] = weights.at(a, b);
-                lanes[place + 1] = weights.at(a, b);
+                let weight = weights.at(a, b);
+                lanes[place] = weight;
+                lanes[place + 1] = weight;
             }
         }
         let is_mirrored = is_mirrored(&weights);
@@ -93,7 +94,8 @@ impl LaneWeights {
         requires column { b < side self.now }
         ensures { result ≡ two (λ i. weight self.now a b) }
     {
+        let lanes = &self.lanes;
         let place = LANES * (a * (2 * reach + 1) + b) as usize;
-        i64x2::from_slice(&self.lanes[place..])
+        i64x2::from_slice(&lanes[place..])
     }
 }
