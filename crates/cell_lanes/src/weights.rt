@@ -1,6 +1,8 @@
 //! Weights that are multiplied with vectors.
 
 ghost use Rattle.std.specs.Prelude.{◌≡◌, ℕ, true, ◌<◌};
+ghost use Rattle.std.specs.Simd.Lanes.{Each1};
+ghost use Rattle.stencil_def.specs.Limits.{IsWeight};
 ghost use Rattle.stencil_def.specs.Square.{Square, side, weight};
 ghost use Rattle.cell_lanes.specs.Lanes.{two};
 ghost use Rattle.cell_lanes.specs.Mirror.{IsMirrored};
@@ -92,7 +94,8 @@ impl LaneWeights {
         requires reach { reach ≡ self.now.reach }
         requires row { a < side self.now }
         requires column { b < side self.now }
-        ensures { result ≡ two (λ i. weight self.now a b) }
+        ensures value { result ≡ two (λ i. weight self.now a b) }
+        ensures limits { Each1 IsWeight result }
     {
         let lanes = &self.lanes;
         let place = LANES * (a * (2 * reach + 1) + b) as usize;
