@@ -1,5 +1,5 @@
 -- Weights that are written into lanes one by one, and weights that are found to be mirrored.
-use Rattle.std.proofs.Common.{◌≡◌, ◌≢◌, ◌∙◌, refl, sym, ap, subst, zero-add, inl, inr, ◌⊎◌, ℕ, ◌+◌, ◌-◌, ◌*◌, ◌<◌, ◌≤◌, ℤ, pos, to_z, of_z, w64, Bool, true, List, [], ◌∷◌, length, map, replicate, get_or, set, drop, get_or-set_other, get_or-set_same, length-set, below_more, arith}
+use Rattle.std.proofs.Common.{◌≡◌, ◌∙◌, refl, sym, ap, subst, zero-add, inl, inr, ℕ, ◌+◌, ◌-◌, ◌*◌, ◌<◌, ◌≤◌, ℤ, pos, to_z, of_z, w64, Bool, List, [], ◌∷◌, length, map, replicate, get_or, set, drop, get_or-set_other, get_or-set_same, length-set, arith}
 use Rattle.std.specs.List.{All}
 use Rattle.std.specs.Simd.Lanes.{chunk, Each1}
 use Rattle.std.proofs.lemmas.Bool.{cases_lt}
@@ -12,13 +12,13 @@ use borrow.Rule.Slice.PartMut.{mid_of}
 use Rattle.stencil_def.specs.Limits.{IsWeight}
 use Rattle.stencil_def.specs.Square.{Square, side, weight}
 use Rattle.cell_lanes.specs.Lanes.{two}
-use Rattle.cell_lanes.specs.Mirror.{IsMirrored, AreReady}
+use Rattle.cell_lanes.specs.Mirror.{AreReady}
 
 -- the place of a weight is within the square, which has at most 25
-pub place-inside : (s a b : ℕ) → a < s → b < s → a * s + b < s * s
+place-inside : (s a b : ℕ) → a < s → b < s → a * s + b < s * s
 place-inside s a b p q = let rows : (a + 1) * s ≤ s * s = mul-le (a + 1) s s s (omega arith) (omega arith) in omega (arith, rows)
 
-pub place-small : (s a b : ℕ) → s ≤ 5 → a < s → b < s → a * s + b < 25
+place-small : (s a b : ℕ) → s ≤ 5 → a < s → b < s → a * s + b < 25
 place-small s a b small p q =
     let inside = place-inside s a b p q in
     let most : s * s ≤ 5 * 5 = mul-le s s 5 5 small small in
@@ -30,7 +30,7 @@ pub record IsReadyBelow (w : Square) (lanes : List ℤ) (n : ℕ) : Type 0 where
   pub limits : All IsWeight lanes
   pub both_lanes : (k i : ℕ) → k < n → i < 2 → get_or lanes (2 * k + i) (pos 0) ≡ get_or w.values k (pos 0)
 
-pub ready-next : (w : Square) (lanes : List ℤ) (n : ℕ) (v : ℤ) → IsReadyBelow w lanes n → n < 25 → v ≡ get_or w.values n (pos 0) → IsWeight v
+ready-next : (w : Square) (lanes : List ℤ) (n : ℕ) (v : ℤ) → IsReadyBelow w lanes n → n < 25 → v ≡ get_or w.values n (pos 0) → IsWeight v
     → IsReadyBelow w (set (set lanes (2 * n) v) (2 * n + 1) v) (n + 1)
 ready-next w lanes n v r small is limits =
     let long = r.lanes_length in
@@ -45,15 +45,15 @@ ready-next w lanes n v r small is limits =
       lanes_length = length-set first (2 * n + 1) v ∙ first-long;
       limits = All-set IsWeight first (2 * n + 1) v limits (All-set IsWeight lanes (2 * n) v limits r.limits);
       both_lanes = λ k i h g.
-      elim (cases_lt k n) [
-        inl below ↦ others k i below g ∙ r.both_lanes k i below g
-      | inr least ↦
-        (let same : k ≡ n = omega arith in
-        elim (cases_lt i 1) [
-          inl left-lane ↦ (let at : 2 * k + i ≡ 2 * n = omega arith in rw (at, same) (left ∙ is))
-        | inr right-lane ↦ (let at : 2 * k + i ≡ 2 * n + 1 = omega arith in rw (at, same) (right ∙ is))
-        ])
-      ];
+          elim (cases_lt k n) [
+            | inl below ↦ others k i below g ∙ r.both_lanes k i below g
+            | inr least ↦
+                (let same : k ≡ n = omega arith in
+                elim (cases_lt i 1) [
+                  | inl left-lane ↦ (let at : 2 * k + i ≡ 2 * n = omega arith in rw (at, same) (left ∙ is))
+                  | inr right-lane ↦ (let at : 2 * k + i ≡ 2 * n + 1 = omega arith in rw (at, same) (right ∙ is))
+                ])
+          ];
     }
 
 -- at first all lanes are 0
@@ -143,7 +143,10 @@ pub mirrored-here : (w : Square) (reach a b : ℕ) (here right below across : �
     → IsWeight here → IsWeight right → IsWeight below → IsWeight across
     → of_z w64 right ≡ of_z w64 here → of_z w64 below ≡ of_z w64 here → of_z w64 across ≡ of_z w64 here
     → IsMirroredAt w a b
-mirrored-here w reach a b here right below across r here-is right-is below-is across-is p q s t right-same below-same across-same =
-    (ap (λ n. weight w a (2 * n - b)) (sym r) ∙ (sym right-is ∙ (same-bits right here q p right-same ∙ here-is)),
-    (ap (λ n. weight w (2 * n - a) b) (sym r) ∙ (sym below-is ∙ (same-bits below here s p below-same ∙ here-is)),
-    ap (λ n. weight w (2 * n - a) (2 * n - b)) (sym r) ∙ (sym across-is ∙ (same-bits across here t p across-same ∙ here-is))))
+mirrored-here w reach a b here right below across r here-is right-is below-is across-is p q s t right-same below-same across-same = (
+  ap (λ n. weight w a (2 * n - b)) (sym r) ∙ (sym right-is ∙ (same-bits right here q p right-same ∙ here-is)),
+  (
+    ap (λ n. weight w (2 * n - a) b) (sym r) ∙ (sym below-is ∙ (same-bits below here s p below-same ∙ here-is)),
+    ap (λ n. weight w (2 * n - a) (2 * n - b)) (sym r) ∙ (sym across-is ∙ (same-bits across here t p across-same ∙ here-is)),
+  ),
+)

@@ -90,7 +90,7 @@ made-reciprocal v k size digits least most =
 pub shift-small : (k : ℕ) → 2 ^ k ≤ 1000000 → k < 20
 shift-small k h = elim (cases_lt k 20) [ inl below ↦ below | inr least ↦ (let great : 1048576 ≤ 2 ^ k = pow_mono least in absurd (omega arith)) ]
 
-pub shifted-one : (k : ℕ) → 2 ^ k ≤ 1000000 → 1 * 2 ^ k % 4294967296 ≡ 2 ^ k
+shifted-one : (k : ℕ) → 2 ^ k ≤ 1000000 → 1 * 2 ^ k % 4294967296 ≡ 2 ^ k
 shifted-one k h =
     let one : 1 * 2 ^ k ≡ 2 ^ k = omega arith in
     let size : 2 ^ k < 4294967296 = omega arith in

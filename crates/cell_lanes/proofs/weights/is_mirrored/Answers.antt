@@ -7,10 +7,10 @@ loop-b-preserved c =
     record {
       above = c.loop-b.invariant.above;
       here = below_more (λ b. IsMirroredAt c.args.weights.now c.loop-a.a b) c.loop-b.b c.loop-b.invariant.here
-      (mirrored-here c.args.weights.now c.reach-reach.result c.loop-a.a c.loop-b.b c.at-weight.result c.at.result c.at-else-at-weight.result c.at-else-at-weight-2.result
-      c.reach-reach.ensures.value c.at-weight.ensures.value c.at.ensures.value c.at-else-at-weight.ensures.value c.at-else-at-weight-2.ensures.value
-      c.at-weight.ensures.limits c.at.ensures.limits c.at-else-at-weight.ensures.limits c.at-else-at-weight-2.ensures.limits
-      c.if-at-weight.false c.if-at-weight-2.false c.if-at-weight-3.false);
+          (mirrored-here c.args.weights.now c.reach-reach.result c.loop-a.a c.loop-b.b c.at-weight.result c.at.result c.at-else-at-weight.result c.at-else-at-weight-2.result
+          c.reach-reach.ensures.value c.at-weight.ensures.value c.at.ensures.value c.at-else-at-weight.ensures.value c.at-else-at-weight-2.ensures.value
+          c.at-weight.ensures.limits c.at.ensures.limits c.at-else-at-weight.ensures.limits c.at-else-at-weight-2.ensures.limits
+          c.if-at-weight.false c.if-at-weight-2.false c.if-at-weight-3.false);
     }
 
 pub loop-a-preserved : goal.loop-a-preserved

@@ -1,4 +1,4 @@
-use Rattle.std.proofs.Common.{◌≡◌, ◌∙◌, sym, ap, pos, int_div, unsigned_abs, to_z, of_z, w64}
+use Rattle.std.proofs.Common.{◌≡◌, ◌∙◌, ap, pos, int_div, unsigned_abs, to_z, of_z, w64}
 use Rattle.std.proofs.lemmas.Int.{to_z-of_z}
 use Rattle.stencil_def.specs.Step.{clamped}
 use Rattle.cell_lanes.proofs.divisor.Divisor.quotient.Goals as goal

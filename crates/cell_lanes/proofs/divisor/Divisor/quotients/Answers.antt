@@ -42,7 +42,7 @@ loop-x-preserved c = record {
   power = c.loop-x.invariant.power;
   small = c.loop-x.invariant.small;
   mapped = divided-next c.args.self.now c.args.sums.now c.loop-x.sums c.loop-x.x c.shifted.result c.requires c.loop-x.invariant.mapped c.loop-x.auto.sums c.loop-x-test.true
-  (c.shifted.ensures.value ∙ ap (λ d. clamped (int_div (to_z w64 (of_z w64 (get_or c.loop-x.sums c.loop-x.x (pos 0)))) d)) (sym c.loop-x.invariant.power)) c.shifted.ensures.limits;
+      (c.shifted.ensures.value ∙ ap (λ d. clamped (int_div (to_z w64 (of_z w64 (get_or c.loop-x.sums c.loop-x.x (pos 0)))) d)) (sym c.loop-x.invariant.power)) c.shifted.ensures.limits;
 }
 
 pub returns-after-loop-x-clause-values : goal.returns-after-loop-x-clause-values
