@@ -7,5 +7,6 @@ pub mod ProductFacts
 pub mod RowFacts
 pub mod SplitFacts
 pub mod PaddedFacts
+pub mod ReadyFacts
 pub mod ReciprocalFacts
 pub mod WindowFacts

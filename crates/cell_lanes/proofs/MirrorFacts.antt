@@ -126,3 +126,14 @@ window-size w window width x near weights values =
          (λ b. product-size (weight w a b) (met window width x a b) (weights a b) (value-at window (a * width + (x + b)) values)) in omega (arith, s, near) in
     let all = sum-size (side w) 5000000000000000 (λ a. row_sum_at w window width x a) row in
     omega (arith, all, near)
+
+-- the sum over the first n weights of row a, each times the values that meet equal weights
+abbrev pub alike_at : Square → List ℤ → ℕ → ℕ → ℕ → ℕ → ℤ
+alike_at w window width x a b = weight w a b *ℤ alike window width w.reach x a b
+
+abbrev pub alike_below : Square → List ℤ → ℕ → ℕ → ℕ → ℕ → ℤ
+alike_below w window width x a n = sum_below n (λ b. alike_at w window width x a b)
+
+-- the sum over the first n of these rows
+abbrev pub alike_rows_below : Square → List ℤ → ℕ → ℕ → ℕ → ℤ
+alike_rows_below w window width x n = sum_below n (λ a. alike_row_sum w window width x a)

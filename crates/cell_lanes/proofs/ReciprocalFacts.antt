@@ -1,7 +1,8 @@
 -- A product with a reciprocal gives the quotient.
 use Rattle.std.proofs.lemmas.Int.{ints, to_z-of_z, fits_signed_from_abs}
 use Rattle.stencil_def.specs.Limits.{IsDiv}
-use Rattle.std.proofs.Common.{◌≡◌, ◌∙◌, sym, ap, subst, pow-add, ℤ, pos, negsuc, unsigned_abs, to_z, of_z, w64, ℕ, ◌+◌, ◌-◌, ◌*◌, ◌/◌, ◌%◌, ◌^◌, ◌<◌, ◌≤◌, arith}
+use Rattle.std.proofs.Common.{◌≡◌, ◌∙◌, sym, ap, subst, pow-add, inl, inr, ℤ, pos, negsuc, unsigned_abs, to_z, of_z, w64, ℕ, ◌+◌, ◌-◌, ◌*◌, ◌/◌, ◌%◌, ◌^◌, ◌<◌, ◌≤◌, arith}
+use Rattle.std.proofs.lemmas.Bool.{cases_lt}
 use Rattle.std.proofs.lemmas.Nat.{mul-le}
 use Rattle.std.proofs.Math.Nat.{div-eq_of_lt-le, div-div-eq-div-mul, div-mul-le_self, lt-div-mul-add, lt_of_mul-lt-mul_right, div-lt_iff_lt-mul, mod-eq_of_lt}
 use Rattle.std.proofs.Math.Pow.{pow_mono, pow-lt}
@@ -84,3 +85,20 @@ made-reciprocal v k size digits least most =
       below = made-below v (2 ^ (64 + k)) some;
       next = made-next v (2 ^ (64 + k)) size.0 some;
     })
+
+-- a power of two that is a divisor
+pub shift-small : (k : ℕ) → 2 ^ k ≤ 1000000 → k < 20
+shift-small k h = elim (cases_lt k 20) [ inl below ↦ below | inr least ↦ (let great : 1048576 ≤ 2 ^ k = pow_mono least in absurd (omega arith)) ]
+
+shifted-one : (k : ℕ) → 2 ^ k ≤ 1000000 → 1 * 2 ^ k % 4294967296 ≡ 2 ^ k
+shifted-one k h =
+    let one : 1 * 2 ^ k ≡ 2 ^ k = omega arith in
+    let size : 2 ^ k < 4294967296 = omega arith in
+    ap (λ x. x % 4294967296) one ∙ mod-eq_of_lt size
+
+-- a divisor that is found to be a power of two
+pub power-small : (d m k : ℕ) → IsReciprocal d m k → 2 ^ k ≤ 1000000
+power-small d m k r = let least = r.least in let most = r.limits.1 in omega arith
+
+pub power-is : (d m k : ℕ) → IsReciprocal d m k → d ≡ 1 * 2 ^ k % 4294967296 → pos d ≡ pos (2 ^ k)
+power-is d m k r found = ap pos (found ∙ shifted-one k (power-small d m k r))

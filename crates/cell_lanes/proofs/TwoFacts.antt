@@ -1,5 +1,5 @@
 -- Vectors of two lanes.
-use Rattle.std.proofs.Common.{◌≡◌, ◌∙◌, refl, ap, sym, ℕ, zero, suc, ◌+◌, ◌≤◌, ◌<◌, ◌^◌, ℤ, pos, ◌+ℤ◌, ◌*ℤ◌, unsigned_abs, to_z, of_z, w64, List, [], ◌∷◌, map, length, get_or, arith}
+use Rattle.std.proofs.Common.{◌≡◌, ◌∙◌, refl, ap, sym, subst, ℕ, zero, suc, ◌+◌, ◌≤◌, ◌<◌, ◌^◌, ℤ, pos, ◌+ℤ◌, ◌*ℤ◌, unsigned_abs, to_z, of_z, w64, List, [], ◌∷◌, map, length, get_or, arith}
 use Rattle.std.proofs.lemmas.Simd.{length-chunk, get_or-chunk}
 use Rattle.std.specs.Simd.Lanes.{zip2, Each1, chunk}
 use Rattle.cell_lanes.specs.Lanes.{two}
@@ -58,3 +58,7 @@ each-bits P vs f e h small = each-two P (map (to_z w64) (map (of_z w64) vs)) f (
 
 pub long-bits : (vs : List ℤ) (f : ℕ → ℤ) → vs ≡ two f → length (map (to_z w64) (map (of_z w64) vs)) ≡ 2
 long-bits vs f e = rw e refl
+
+-- a fact of a vector, as one of its first lane
+pub first-of : (P : ℤ → Type 0) (vs : List ℤ) (f : ℕ → ℤ) → vs ≡ two f → Each1 P vs → P (f 0)
+first-of P vs f e h = (subst (Each1 P) e h).0

@@ -32,7 +32,7 @@ impl Model for Divisor {
 /// A quotient of this size with the sign of the sum, clamped to -10^12 to 10^12.
 #[inline(always)]
 fn signed(size: u64, sum: i64) -> i64
-    ensures value { (d : ℤ) → IsDiv d → pos size ≡ int_div (pos (unsigned_abs sum)) d → result ≡ clamped (int_div sum d) }
+    ensures value { (d : ℤ) → pos size ≡ int_div (pos (unsigned_abs sum)) d → result ≡ clamped (int_div sum d) }
     ensures limits { IsValue result }
 {
     let size = size.min(MAX_VALUE as u64) as i64;

@@ -1,6 +1,7 @@
 //! Weights that are multiplied with vectors.
 
 ghost use Rattle.std.specs.Prelude.{◌≡◌, ℕ, true, ◌<◌};
+ghost use Rattle.std.specs.Simd.Lanes.{Each1};
 ghost use Rattle.stencil_def.specs.Limits.{IsWeight};
 ghost use Rattle.stencil_def.specs.Square.{Square, side, weight};
 ghost use Rattle.cell_lanes.specs.Lanes.{two};
@@ -60,8 +61,9 @@ impl LaneWeights {
         for a in 0..side {
             for b in 0..side {
                 let place = LANES * (a * side + b) as usize;
-                lanes[place] = weights.at(a, b);
-                lanes[place + 1] = weights.at(a, b);
+                let weight = weights.at(a, b);
+                lanes[place] = weight;
+                lanes[place + 1] = weight;
             }
         }
         let is_mirrored = is_mirrored(&weights);
@@ -93,10 +95,11 @@ impl LaneWeights {
         requires reach { reach ≡ self.now.reach }
         requires row { a < side self.now }
         requires column { b < side self.now }
-        ensures lanes { result ≡ two (λ i. weight self.now a b) }
-        ensures limits { IsWeight (weight self.now a b) }
+        ensures value { result ≡ two (λ i. weight self.now a b) }
+        ensures limits { Each1 IsWeight result }
     {
+        let lanes = &self.lanes;
         let place = LANES * (a * (2 * reach + 1) + b) as usize;
-        i64x2::from_slice(&self.lanes[place..])
+        i64x2::from_slice(&lanes[place..])
     }
 }

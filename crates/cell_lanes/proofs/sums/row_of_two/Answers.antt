@@ -5,7 +5,7 @@ use Rattle.stencil_def.proofs.SumFacts.{sum-none}
 use Rattle.cell_lanes.specs.Window.{met, row_sum_at}
 use Rattle.cell_lanes.specs.Sizes.{IsPart, IsAlike, IsRowSum}
 use Rattle.cell_lanes.proofs.LaneFacts.{product-size}
-use Rattle.cell_lanes.proofs.TwoFacts.{two-same, two-all, two-back, each-bits, long-bits, multiplied}
+use Rattle.cell_lanes.proofs.TwoFacts.{two-same, two-all, two-back, each-bits, long-bits, multiplied, first-of}
 use Rattle.cell_lanes.proofs.WindowFacts.{value-at, row-more, row-next, row_below, product_at, room}
 use Rattle.cell_lanes.proofs.sums.row_of_two.Goals as goal
 
@@ -21,14 +21,9 @@ values_met-values-requires-clause-place c =
 
 pub times-requires-clause-lanes : goal.times-requires-clause-lanes
 times-requires-clause-lanes c = (
-  long-bits c.at.result (λ i. weight c.args.weights.now c.args.a c.loop-b.b) c.at.ensures.lanes,
+  long-bits c.at.result (λ i. weight c.args.weights.now c.args.a c.loop-b.b) c.at.ensures.value,
   long-bits c.values_met-values.result (λ i. met c.args.window.now c.args.width (c.args.x + i) c.args.a c.loop-b.b) c.values_met-values.ensures,
 )
-
-pub times-requires-clause-weight : goal.times-requires-clause-weight
-times-requires-clause-weight c =
-    let limits = c.at.ensures.limits in
-    each-bits IsWeight c.at.result (λ i. weight c.args.weights.now c.args.a c.loop-b.b) c.at.ensures.lanes (λ i. limits) (λ i. omega arith)
 
 pub times-requires-clause-values : goal.times-requires-clause-values
 times-requires-clause-values c =
@@ -43,22 +38,22 @@ plus-sums-requires-clause-left c =
 
 pub plus-sums-requires-clause-right : goal.plus-sums-requires-clause-right
 plus-sums-requires-clause-right c =
-    let limits = c.at.ensures.limits in
+    let limits = first-of IsWeight c.at.result (λ i. weight c.args.weights.now c.args.a c.loop-b.b) c.at.ensures.value c.at.ensures.limits in
     let v : ℕ → _ = λ i. met c.args.window.now c.args.width (c.args.x + i) c.args.a c.loop-b.b in
     let value : (i : ℕ) → IsValue (v i) = λ i. value-at c.args.window.now (c.args.a * c.args.width + (c.args.x + i + c.loop-b.b)) c.requires.values in
     let size : (i : ℕ) → unsigned_abs (weight c.args.weights.now c.args.a c.loop-b.b *ℤ v i) ≤ 1000000000000000 = λ i. product-size (weight c.args.weights.now c.args.a c.loop-b.b) (v i) limits (value i) in
     each-bits IsPart c.times.result (λ i. weight c.args.weights.now c.args.a c.loop-b.b *ℤ v i)
-    (multiplied c.at.result c.values_met-values.result c.times.result (λ i. weight c.args.weights.now c.args.a c.loop-b.b) v c.at.ensures.lanes c.values_met-values.ensures
+    (multiplied c.at.result c.values_met-values.result c.times.result (λ i. weight c.args.weights.now c.args.a c.loop-b.b) v c.at.ensures.value c.values_met-values.ensures
     (λ i. omega arith) (λ i. let q = value i in omega arith) c.times.ensures)
     (λ i. let s = size i in omega arith) (λ i. let s = size i in omega arith)
 
 pub loop-b-preserved : goal.loop-b-preserved
 loop-b-preserved c =
-    let bound = c.at.ensures.limits in
+    let bound = first-of IsWeight c.at.result (λ i. weight c.args.weights.now c.args.a c.loop-b.b) c.at.ensures.value c.at.ensures.limits in
     let v : ℕ → _ = λ i. met c.args.window.now c.args.width (c.args.x + i) c.args.a c.loop-b.b in
     let value : (i : ℕ) → IsValue (v i) = λ i. value-at c.args.window.now (c.args.a * c.args.width + (c.args.x + i + c.loop-b.b)) c.requires.values in
     let size : (i : ℕ) → unsigned_abs (weight c.args.weights.now c.args.a c.loop-b.b *ℤ v i) ≤ 1000000000000000 = λ i. product-size (weight c.args.weights.now c.args.a c.loop-b.b) (v i) bound (value i) in
-    let products = multiplied c.at.result c.values_met-values.result c.times.result (λ i. weight c.args.weights.now c.args.a c.loop-b.b) v c.at.ensures.lanes c.values_met-values.ensures
+    let products = multiplied c.at.result c.values_met-values.result c.times.result (λ i. weight c.args.weights.now c.args.a c.loop-b.b) v c.at.ensures.value c.values_met-values.ensures
     (λ i. omega arith) (λ i. let q = value i in omega arith) c.times.ensures in
     let limits : (i : ℕ) → unsigned_abs (row_below c.args.weights.now c.args.window.now c.args.width (c.args.x + i) c.args.a (c.loop-b.b + 1)) ≤ (c.loop-b.b + 1) * 1000000000000000 =
     λ i. row-more c.args.weights.now c.args.window.now c.args.width (c.args.x + i) c.args.a c.loop-b.b (weight c.args.weights.now c.args.a c.loop-b.b) refl bound c.requires.values (c.loop-b.invariant.limits i) in
