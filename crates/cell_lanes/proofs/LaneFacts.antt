@@ -1,7 +1,7 @@
 -- Vectors of signed numbers, lane by lane.
-use Rattle.std.proofs.Common.{◌≡◌, refl, ℕ, ◌≤◌, ◌<◌, ◌^◌, ℤ, ◌+ℤ◌, ◌*ℤ◌, unsigned_abs, FitsSigned, to_z, of_z, w64, List, [], ◌∷◌, map, length, replicate, zero, suc, arith}
+use Rattle.std.proofs.Common.{◌≡◌, refl, ℕ, ◌≤◌, ◌<◌, ◌^◌, ℤ, ◌+ℤ◌, ◌*ℤ◌, unsigned_abs, FitsSigned, to_z, of_z, w64, List, [], ◌∷◌, map, arith}
 use Rattle.std.specs.Simd.Lanes.{zip2, Each1, Each2}
-use Rattle.std.proofs.lemmas.Int.{ints, to_z-of_z, fits_signed_from_abs, fits_signed_mul, unsigned_abs-mul}
+use Rattle.std.proofs.lemmas.Int.{ints, to_z-of_z, fits_signed_from_abs, unsigned_abs-mul}
 use Rattle.std.proofs.lemmas.Nat.{mul-le}
 use Rattle.stencil_def.specs.Limits.{IsWeight, IsValue}
 use Rattle.cell_lanes.specs.Sizes.{IsPart}

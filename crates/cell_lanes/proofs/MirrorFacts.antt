@@ -1,19 +1,17 @@
 -- Sums over mirrored weights.
-use Rattle.std.proofs.Common.{◌≡◌, ◌∙◌, refl, sym, ap, ℕ, zero, suc, ◌+◌, ◌-◌, ◌*◌, ◌<◌, ◌≤◌, ℤ, pos, ◌+ℤ◌, ◌*ℤ◌, unsigned_abs, List, inl, inr, arith, rules, nat_lt}
+use Rattle.std.proofs.Common.{◌≡◌, ◌∙◌, refl, sym, ap, ℕ, zero, suc, ◌+◌, ◌-◌, ◌*◌, ◌<◌, ◌≤◌, ℤ, ◌+ℤ◌, ◌*ℤ◌, unsigned_abs, List, inl, inr, arith, rules}
 use Rattle.std.specs.List.{All}
-use Rattle.std.proofs.lemmas.Int.{ints, unsigned_abs-mul}
-use Rattle.std.proofs.lemmas.Nat.{mul-le}
+use Rattle.std.proofs.lemmas.Int.{ints}
 use Rattle.std.proofs.lemmas.Bool.{cases_lt}
-use Rattle.stencil_def.specs.Limits.{IsWithin, IsValue, IsWeight}
+use Rattle.stencil_def.specs.Limits.{IsWithin, IsValue}
 use Rattle.stencil_def.specs.Square.{Square, side, weight}
 use Rattle.stencil_def.specs.Step.{sum_below}
-use Rattle.stencil_def.proofs.SumFacts.{sum-none, sum-more, sum-small}
-use Rattle.cell_lanes.specs.Mirror.{both, IsMirrored, row_alike, alike, alike_row_sum}
+use Rattle.stencil_def.proofs.SumFacts.{sum-small}
+use Rattle.cell_lanes.specs.Mirror.{both, HasLimits, IsMirrored, row_alike, alike, alike_row_sum}
 use Rattle.cell_lanes.specs.Sizes.{IsAlike, IsSum}
 use Rattle.cell_lanes.specs.Window.{met, row_sum_at, sum_at}
 use Rattle.cell_lanes.proofs.LaneFacts.{product-size}
 use Rattle.cell_lanes.proofs.ProductFacts.{spread}
-use Rattle.cell_lanes.proofs.SplitFacts.{product-alike}
 use Rattle.cell_lanes.proofs.WindowFacts.{value-at}
 
 -- before the middle, and at it
@@ -48,10 +46,10 @@ unfolding sum_below
 sum-plus zero f g = refl
 sum-plus (suc n) f g = let before = sum-plus n f g in omega (arith, ints, before)
 
-pub sum-size : (n m : ℕ) (f : ℕ → ℤ) → ((k : ℕ) → unsigned_abs (f k) ≤ m) → unsigned_abs (sum_below n f) ≤ n * m
+pub sum-size : (n m : ℕ) (f : ℕ → ℤ) → ((k : ℕ) → k < n → unsigned_abs (f k) ≤ m) → unsigned_abs (sum_below n f) ≤ n * m
 unfolding sum_below
 sum-size zero m f h = omega arith
-sum-size (suc n) m f h = let s = sum-small (sum_below n f) (f n) n m (sum-size n m f h) (h n) in omega (arith, s)
+sum-size (suc n) m f h = let s = sum-small (sum_below n f) (f n) n m (sum-size n m f (λ k l. h k (omega arith))) (h n (omega arith)) in omega (arith, s)
 
 -- a sum over all places is one over those up to the middle
 fold : (r : ℕ) (f : ℕ → ℤ) → IsWithin 1 2 r → sum_below (2 * r + 1) f ≡ sum_below (r + 1) (both r f)
@@ -72,10 +70,10 @@ row-fold w window width x a row near same =
     fold r p near
     ∙ sum-same (r + 1) (both r p) (λ b. weight w a b *ℤ both r m b) (λ b h. elim (cases_lt b r) [
       | inl l ↦ both-before r p b l
-        ∙ ((λ i. (same b (omega arith)).0 i *ℤ m b +ℤ (same b (omega arith)).1 i *ℤ m (2 * r - b))
-        ∙ (sym (spread (weight w a b) (m b) (m (2 * r - b))) ∙ ap (λ z. weight w a b *ℤ z) (sym (both-before r m b l))))
+          ∙ ((λ i. (same b (omega arith)).0 i *ℤ m b +ℤ (same b (omega arith)).1 i *ℤ m (2 * r - b))
+          ∙ (sym (spread (weight w a b) (m b) (m (2 * r - b))) ∙ ap (λ z. weight w a b *ℤ z) (sym (both-before r m b l))))
       | inr g ↦ both-middle r p b g
-        ∙ (ap (λ z. z *ℤ m b) (same b (omega arith)).0 ∙ ap (λ z. weight w a b *ℤ z) (sym (both-middle r m b g)))
+          ∙ (ap (λ z. z *ℤ m b) (same b (omega arith)).0 ∙ ap (λ z. weight w a b *ℤ z) (sym (both-middle r m b g)))
     ])
 
 -- a row and the one across the middle
@@ -91,14 +89,14 @@ rows-fold w window width x a near mirrored few =
     let term : ℕ → ℕ → ℤ = λ row b. row_alike window width r x row b in
     elim (cases_lt a r) [
       | inl l ↦ both-before r rows a l
-        ∙ ((λ i. row-fold w window width x a a near own i +ℤ row-fold w window width x a (2 * r - a) near across i)
-        ∙ (sum-plus (r + 1) (λ b. weight w a b *ℤ term a b) (λ b. weight w a b *ℤ term (2 * r - a) b)
-        ∙ sum-same (r + 1) (λ b. weight w a b *ℤ term a b +ℤ weight w a b *ℤ term (2 * r - a) b) (λ b. weight w a b *ℤ alike window width r x a b)
-        (λ b h. sym (spread (weight w a b) (term a b) (term (2 * r - a) b)) ∙ ap (λ z. weight w a b *ℤ z) (sym (both-before r (λ row. term row b) a l)))))
+          ∙ ((λ i. row-fold w window width x a a near own i +ℤ row-fold w window width x a (2 * r - a) near across i)
+          ∙ (sum-plus (r + 1) (λ b. weight w a b *ℤ term a b) (λ b. weight w a b *ℤ term (2 * r - a) b)
+          ∙ sum-same (r + 1) (λ b. weight w a b *ℤ term a b +ℤ weight w a b *ℤ term (2 * r - a) b) (λ b. weight w a b *ℤ alike window width r x a b)
+          (λ b h. sym (spread (weight w a b) (term a b) (term (2 * r - a) b)) ∙ ap (λ z. weight w a b *ℤ z) (sym (both-before r (λ row. term row b) a l)))))
       | inr g ↦ both-middle r rows a g
-        ∙ (row-fold w window width x a a near own
-        ∙ sum-same (r + 1) (λ b. weight w a b *ℤ term a b) (λ b. weight w a b *ℤ alike window width r x a b)
-        (λ b h. ap (λ z. weight w a b *ℤ z) (sym (both-middle r (λ row. term row b) a g))))
+          ∙ (row-fold w window width x a a near own
+          ∙ sum-same (r + 1) (λ b. weight w a b *ℤ term a b) (λ b. weight w a b *ℤ alike window width r x a b)
+          (λ b h. ap (λ z. weight w a b *ℤ z) (sym (both-middle r (λ row. term row b) a g))))
     ]
 
 -- the sum over a window
@@ -118,12 +116,12 @@ pub alike-size : (window : List ℤ) (width r x a b : ℕ) → All IsValue windo
 alike-size window width r x a b h =
     both-size r (λ row. row_alike window width r x row b) a 2000000000000 (λ row. row-alike-size window width r x row b h)
 
-pub window-size : (w : Square) (window : List ℤ) (width x : ℕ) → w.reach ≤ 2 → ((a b : ℕ) → IsWeight (weight w a b)) → All IsValue window
+pub window-size : (w : Square) (window : List ℤ) (width x : ℕ) → w.reach ≤ 2 → HasLimits w → All IsValue window
     → IsSum (sum_at w window width x)
 window-size w window width x near weights values =
-    let row : (a : ℕ) → unsigned_abs (row_sum_at w window width x a) ≤ 5 * 1000000000000000 =
-    λ a. let s = sum-size (side w) 1000000000000000 (λ b. weight w a b *ℤ met window width x a b)
-         (λ b. product-size (weight w a b) (met window width x a b) (weights a b) (value-at window (a * width + (x + b)) values)) in omega (arith, s, near) in
+    let row : (a : ℕ) → a < side w → unsigned_abs (row_sum_at w window width x a) ≤ 5 * 1000000000000000 =
+    λ a h. let s = sum-size (side w) 1000000000000000 (λ b. weight w a b *ℤ met window width x a b)
+    (λ b l. product-size (weight w a b) (met window width x a b) (weights a b h l) (value-at window (a * width + (x + b)) values)) in omega (arith, s, near) in
     let all = sum-size (side w) 5000000000000000 (λ a. row_sum_at w window width x a) row in
     omega (arith, all, near)
 

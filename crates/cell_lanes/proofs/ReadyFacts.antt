@@ -13,6 +13,7 @@ use Rattle.stencil_def.specs.Limits.{IsWeight}
 use Rattle.stencil_def.specs.Square.{Square, side, weight}
 use Rattle.cell_lanes.specs.Lanes.{two}
 use Rattle.cell_lanes.specs.Mirror.{AreReady}
+use Rattle.cell_lanes.proofs.TwoFacts.{list-two}
 
 -- the place of a weight is within the square, which has at most 25
 place-inside : (s a b : ℕ) → a < s → b < s → a * s + b < s * s
@@ -78,12 +79,6 @@ ready-at w lanes reach a b r ready same near p q is limits =
     let next : a * (2 * reach + 1) + (b + 1) ≡ place + 1 = omega arith in
     rw (back r limits, next) (ready-next w lanes place r ready small value limits)
 
-list-two : (xs : List ℤ) → length xs ≡ 2 → xs ≡ two (λ i. get_or xs i (pos 0))
-list-two [] e = absurd (omega arith)
-list-two (a ∷ []) e = absurd (omega arith)
-list-two (a ∷ b ∷ []) e = refl
-list-two (a ∷ b ∷ x ∷ xs) e = absurd (omega arith)
-
 -- two neighbouring lanes that hold one weight, as they are loaded from a part of all the lanes
 loaded-pair : (lanes : List ℤ) (at : ℕ) (v : ℤ) → length lanes ≡ 50 → at + 2 ≤ 50 → get_or lanes (at + 0) (pos 0) ≡ v → get_or lanes (at + 1) (pos 0) ≡ v
     → chunk 0 2 (mid_of at (50 - at) lanes) ≡ two (λ i. v)
@@ -98,7 +93,7 @@ loaded-pair lanes at v long inside left right =
     list-two (chunk 0 2 part) (length-chunk 0 2 part (omega arith)) ∙ (λ i. first i ∷ second i ∷ [])
 
 -- a weight of a square is in its limits, since it stands in the lanes
-weight-limits : (w : Square) (lanes : List ℤ) (mirrored : Bool) (a b : ℕ) → AreReady w lanes mirrored → a < side w → b < side w → IsWeight (weight w a b)
+pub weight-limits : (w : Square) (lanes : List ℤ) (mirrored : Bool) (a b : ℕ) → AreReady w lanes mirrored → a < side w → b < side w → IsWeight (weight w a b)
 weight-limits w lanes mirrored a b ready p q =
     let near = ready.near in
     let long = ready.lanes_length in

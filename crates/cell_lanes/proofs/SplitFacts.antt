@@ -1,13 +1,13 @@
 -- Products by halves: a value is divided into its low 20 bits and the others.
-use Rattle.std.proofs.Common.{◌≡◌, ◌∙◌, refl, sym, ap, ℕ, ◌+◌, ◌-◌, ◌*◌, ◌/◌, ◌%◌, ◌^◌, ◌<◌, ◌≤◌, zero, suc, ℤ, pos, negsuc, ◌+ℤ◌, ◌-ℤ◌, ◌*ℤ◌, unsigned_abs, FitsSigned, to_z, of_z, w64, List, [], ◌∷◌, map, length, arith, bit_and}
+use Rattle.std.proofs.Common.{◌≡◌, ◌∙◌, sym, ap, ℕ, ◌+◌, ◌-◌, ◌*◌, ◌/◌, ◌%◌, ◌^◌, ◌<◌, ◌≤◌, ℤ, pos, negsuc, ◌+ℤ◌, ◌*ℤ◌, unsigned_abs, FitsSigned, to_z, of_z, w64, List, [], ◌∷◌, map, length, arith, bit_and}
 use Rattle.std.specs.Int.Signed.{shr_z}
-use Rattle.std.proofs.lemmas.Int.{ints, to_z-of_z, to_z_pos, fits_signed_from_abs, fits_signed_mul, unsigned_abs-mul, wrapping_mul_onto, int_wrap_fits}
+use Rattle.std.proofs.lemmas.Int.{ints, to_z_pos, fits_signed_from_abs, fits_signed_mul, unsigned_abs-mul, wrapping_mul_onto, int_wrap_fits}
 use Rattle.std.specs.Int.{int_wrap}
 use Rattle.std.proofs.lemmas.Nat.{mul-le, and_mask}
 use Rattle.std.proofs.Math.Nat.{div-eq_of_lt-le}
 use Rattle.cell_lanes.proofs.ProductFacts.{spread, associate}
 use Rattle.std.specs.Simd.Lanes.{zip2, Each1, Each2}
-use Rattle.stencil_def.specs.Limits.{IsWeight, IsValue}
+use Rattle.stencil_def.specs.Limits.{IsWeight}
 use Rattle.cell_lanes.specs.Sizes.{IsAlike}
 use Rattle.cell_lanes.proofs.LaneFacts.{back}
 

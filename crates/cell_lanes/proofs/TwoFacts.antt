@@ -1,5 +1,5 @@
 -- Vectors of two lanes.
-use Rattle.std.proofs.Common.{◌≡◌, ◌∙◌, refl, ap, sym, subst, ℕ, zero, suc, ◌+◌, ◌≤◌, ◌<◌, ◌^◌, ℤ, pos, ◌+ℤ◌, ◌*ℤ◌, unsigned_abs, to_z, of_z, w64, List, [], ◌∷◌, map, length, get_or, arith}
+use Rattle.std.proofs.Common.{◌≡◌, ◌∙◌, refl, subst, ℕ, zero, suc, ◌+◌, ◌≤◌, ◌<◌, ◌^◌, ℤ, pos, ◌+ℤ◌, ◌*ℤ◌, unsigned_abs, to_z, of_z, w64, List, [], ◌∷◌, map, length, get_or, arith}
 use Rattle.std.proofs.lemmas.Simd.{length-chunk, get_or-chunk}
 use Rattle.std.specs.Simd.Lanes.{zip2, Each1, chunk}
 use Rattle.cell_lanes.specs.Lanes.{two}
@@ -15,7 +15,7 @@ two-all P f h = (h 0, (h 1, tt))
 pub two-back : (vs : List ℤ) (f : ℕ → ℤ) → vs ≡ two f → ((k : ℕ) → unsigned_abs (f k) < 2 ^ 63) → map (to_z w64) (map (of_z w64) vs) ≡ two f
 two-back vs f e h = rw e (two-same (λ k. to_z w64 (of_z w64 (f k))) f (λ k. back (f k) (h k)))
 
-list-two : (xs : List ℤ) → length xs ≡ 2 → xs ≡ two (λ k. get_or xs k (pos 0))
+pub list-two : (xs : List ℤ) → length xs ≡ 2 → xs ≡ two (λ k. get_or xs k (pos 0))
 list-two [] e = absurd (omega arith)
 list-two (a ∷ []) e = absurd (omega arith)
 list-two (a ∷ b ∷ []) e = refl

@@ -1,6 +1,6 @@
 -- Sums over a window, and how great they are.
 use Rattle.std.proofs.Common.{◌≡◌, ◌∙◌, sym, ap, ℕ, ◌+◌, ◌*◌, ◌≤◌, ◌<◌, ℤ, pos, ◌+ℤ◌, ◌*ℤ◌, unsigned_abs, List, map, length, get_or, set, get_or-set_same, get_or-set_other, subst, ◌-◌, int_div, to_z, of_z, w64, inl, inr, arith}
-use Rattle.std.specs.Simd.Lanes.{zip2, chunk, put_chunk, Each1}
+use Rattle.std.specs.Simd.Lanes.{zip2, chunk, put_chunk}
 use Rattle.std.proofs.lemmas.Simd.{get_or-put_chunk_below, get_or-put_chunk_at}
 use Rattle.std.specs.List.{All}
 use Rattle.std.proofs.lemmas.Bool.{cases_lt}
@@ -15,7 +15,7 @@ use Rattle.cell_lanes.specs.Window.{met, row_sum_at, sum_at}
 use Rattle.cell_lanes.specs.Lanes.{two}
 use Rattle.cell_lanes.specs.Sizes.{IsSum, IsRowSum}
 use Rattle.cell_lanes.proofs.LaneFacts.{back, product-size}
-use Rattle.cell_lanes.proofs.TwoFacts.{two-at, two-same, two-all, two-back, chunk-two, added}
+use Rattle.cell_lanes.proofs.TwoFacts.{two-at, two-same, chunk-two, added}
 
 -- by cases on the order of two numbers
 pub below-or : {P : Type 0} (x n : ℕ) → (x < n → P) → (n ≤ x → P) → P

@@ -10,6 +10,10 @@ use Rattle.cell_lanes.specs.Window.{met}
 unfoldable pub both : ℕ → (ℕ → ℤ) → ℕ → ℤ
 both middle f a = if nat_lt a middle then f a +ℤ f (2 * middle - a) else f a
 
+-- each weight is in range
+abbrev pub HasLimits : Square → Type 0
+HasLimits w = (a b : ℕ) → a < side w → b < side w → IsWeight (weight w a b)
+
 -- equal weights stand in the same distance from the middle row and the middle column
 abbrev pub IsMirrored : Square → Type 0
 IsMirrored w = (a b : ℕ) → a ≤ w.reach → b ≤ w.reach →

@@ -41,9 +41,11 @@ pub(crate) fn times(weight: i64x2, values: i64x2) -> i64x2
     let short = (weight << half) >> half;
     let low = values & i64x2::splat((1 << LOW_BITS) - 1);
     let high = (values << i64x2::splat(32 - LOW_BITS)) >> half;
-    short
-        .strict_mul(low)
-        .strict_add(short.strict_mul(high).strict_mul(i64x2::splat(1 << LOW_BITS)))
+    short.strict_mul(low).strict_add(
+        short
+            .strict_mul(high)
+            .strict_mul(i64x2::splat(1 << LOW_BITS)),
+    )
 }
 
 /// The sums of both, lane by lane.

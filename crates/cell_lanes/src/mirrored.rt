@@ -3,10 +3,9 @@
 
 ghost use Rattle.std.specs.Prelude.{◌≡◌, ℕ, ◌+◌, ◌*◌, ◌<◌, ◌≤◌, length};
 ghost use Rattle.std.specs.List.{All};
-ghost use Rattle.stencil_def.specs.Limits.{IsValue, IsWeight};
-ghost use Rattle.stencil_def.specs.Square.{weight};
+ghost use Rattle.stencil_def.specs.Limits.{IsWithin, IsValue};
 ghost use Rattle.cell_lanes.specs.Lanes.{two};
-ghost use Rattle.cell_lanes.specs.Mirror.{IsMirrored, row_alike, alike, alike_row_sum};
+ghost use Rattle.cell_lanes.specs.Mirror.{HasLimits, IsMirrored, row_alike, alike, alike_row_sum};
 ghost use Rattle.cell_lanes.specs.Sizes.{IsSum, IsAlikeSum};
 ghost use Rattle.cell_lanes.specs.Window.{sum_at};
 
@@ -46,7 +45,10 @@ fn alike_values(window: &[i64], width: usize, reach: u32, x: usize, a: u32, b: u
 {
     let values = alike_in_row(window, width, reach, x, a, b);
     if a < reach {
-        plus(values, alike_in_row(window, width, reach, x, 2 * reach - a, b))
+        plus(
+            values,
+            alike_in_row(window, width, reach, x, 2 * reach - a, b),
+        )
     } else {
         values
     }
@@ -91,9 +93,9 @@ pub(crate) fn mirrored_sums_of_two(
     requires window { length window.now ≡ (2 * reach + 1) * width }
     requires values { All IsValue window.now }
     requires reach { reach ≡ weights.now.reach }
-    requires near { reach ≤ 2 }
+    requires near { IsWithin 1 2 reach }
     requires columns { x + 2 + 2 * reach ≤ width }
-    requires weights { (a b : ℕ) → IsWeight (weight weights.now a b) }
+    requires weights { HasLimits weights.now }
     requires mirrored { IsMirrored weights.now }
     ensures sums { result ≡ two (λ i. sum_at weights.now window.now width (x + i)) }
     ensures limits { (i : ℕ) → IsSum (sum_at weights.now window.now width (x + i)) }

@@ -7,8 +7,8 @@ ghost use Rattle.stencil_def.specs.Plane.{Plane, IsPlane, cell};
 ghost use Rattle.stencil_def.specs.Step.{new_cell};
 ghost use Rattle.cell_lanes.specs.Padding.{with_ends, or_edge, end_or, row_value, IsPadded, RowsAre};
 
-use crate::{Divisor, LaneWeights};
 use crate::row::{copied_row, next_row, place_at};
+use crate::{Divisor, LaneWeights};
 use std::alloc::{AllocError, Global};
 use stencil_def::{Grid, Rule};
 

@@ -4,8 +4,8 @@ ghost use Rattle.std.specs.Prelude.{◌≡◌, IfOk};
 ghost use Rattle.stencil_def.specs.Plane.{IsPlane};
 ghost use Rattle.stencil_def.specs.Step.{fold_plane};
 
-use crate::{Divisor, LaneWeights};
 use crate::padded::{middle, next_padded, padded, zeros};
+use crate::{Divisor, LaneWeights};
 use std::alloc::{AllocError, Global};
 use std::mem;
 use stencil_def::{Grid, Rule};

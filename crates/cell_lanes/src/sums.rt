@@ -2,11 +2,11 @@
 
 ghost use Rattle.std.specs.Prelude.{◌≡◌, ℕ, ◌+◌, ◌*◌, ◌<◌, ◌≤◌, ◌*ℤ◌, true, pos, int_div, length, slice_index_or, unsigned_abs};
 ghost use Rattle.std.specs.List.{All};
-ghost use Rattle.stencil_def.specs.Limits.{IsWeight, IsValue};
-ghost use Rattle.stencil_def.specs.Square.{side, weight};
+ghost use Rattle.stencil_def.specs.Limits.{IsWithin, IsWeight, IsValue};
+ghost use Rattle.stencil_def.specs.Square.{side};
 ghost use Rattle.stencil_def.specs.Step.{clamped};
 ghost use Rattle.cell_lanes.specs.Lanes.{two};
-ghost use Rattle.cell_lanes.specs.Mirror.{IsMirrored};
+ghost use Rattle.cell_lanes.specs.Mirror.{HasLimits, IsMirrored};
 ghost use Rattle.cell_lanes.specs.Sizes.{IsSum, IsRowSum};
 ghost use Rattle.cell_lanes.specs.Window.{row_sum_at, sum_at};
 
@@ -123,8 +123,8 @@ fn sums_at_reach(
     requires window { length window.now ≡ side weights.now * width }
     requires values { All IsValue window.now }
     requires reach { reach ≡ weights.now.reach }
-    requires near { reach ≤ 2 }
-    requires weights { (a b : ℕ) → IsWeight (weight weights.now a b) }
+    requires near { IsWithin 1 2 reach }
+    requires weights { HasLimits weights.now }
     requires mirrored { is_mirrored ≡ true → IsMirrored weights.now }
     requires out { length out.old + 2 * reach ≡ width }
     ensures sums { (x : ℕ) → x < length out.old → slice_index_or out.new x (pos 0) ≡ sum_at weights.now window.now width x }
@@ -153,7 +153,7 @@ fn sums_near(window: &[i64], width: usize, weights: &LaneWeights, out: &mut [i64
     requires window { length window.now ≡ side weights.now * width }
     requires values { All IsValue window.now }
     requires reach { weights.now.reach ≡ 1 }
-    requires weights { (a b : ℕ) → IsWeight (weight weights.now a b) }
+    requires weights { HasLimits weights.now }
     requires out { length out.old + 2 ≡ width }
     ensures sums { (x : ℕ) → x < length out.old → slice_index_or out.new x (pos 0) ≡ sum_at weights.now window.now width x }
     ensures limits { All IsSum out.new }
@@ -171,7 +171,7 @@ fn sums_far(window: &[i64], width: usize, weights: &LaneWeights, out: &mut [i64]
     requires window { length window.now ≡ side weights.now * width }
     requires values { All IsValue window.now }
     requires reach { weights.now.reach ≡ 2 }
-    requires weights { (a b : ℕ) → IsWeight (weight weights.now a b) }
+    requires weights { HasLimits weights.now }
     requires out { length out.old + 4 ≡ width }
     ensures sums { (x : ℕ) → x < length out.old → slice_index_or out.new x (pos 0) ≡ sum_at weights.now window.now width x }
     ensures limits { All IsSum out.new }
@@ -217,7 +217,13 @@ pub fn window_sums(window: &[i64], width: u32, weights: &Weights, out: &mut [i64
 /// The new values of a row: its weighted sums, divided with truncation toward zero and clamped to -10^12 to 10^12.
 ///
 /// The window and `out` are those of `window_sums`.
-pub fn new_cells(window: &[i64], width: u32, weights: &LaneWeights, divisor: &Divisor, out: &mut [i64])
+pub fn new_cells(
+    window: &[i64],
+    width: u32,
+    weights: &LaneWeights,
+    divisor: &Divisor,
+    out: &mut [i64],
+)
     requires window { length window.now ≡ side weights.now * width }
     requires values { All IsValue window.now }
     requires out { length out.old + 2 * weights.now.reach ≡ width }

@@ -88,7 +88,13 @@ fn the_sums_of_the_four_neighbours(rt: HostRuntime) {
     assert_eq!(rt; sums, [13, 20, 17]);
     window_sums(&ROUND_TEN, 5, &weights, &mut sums);
     assert_eq!(rt; sums, [23, 20, 27]);
-    new_cells(&ROUND_TEN, 5, &LaneWeights::new(weights), &Divisor::new(4), &mut sums);
+    new_cells(
+        &ROUND_TEN,
+        5,
+        &LaneWeights::new(weights),
+        &Divisor::new(4),
+        &mut sums,
+    );
     assert_eq!(rt; sums, [5, 5, 6]);
 }
 

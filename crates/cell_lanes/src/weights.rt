@@ -5,7 +5,7 @@ ghost use Rattle.std.specs.Simd.Lanes.{Each1};
 ghost use Rattle.stencil_def.specs.Limits.{IsWeight};
 ghost use Rattle.stencil_def.specs.Square.{Square, side, weight};
 ghost use Rattle.cell_lanes.specs.Lanes.{two};
-ghost use Rattle.cell_lanes.specs.Mirror.{IsMirrored};
+ghost use Rattle.cell_lanes.specs.Mirror.{HasLimits, IsMirrored};
 
 use crate::lanes::LANES;
 use std::marker::Model;
@@ -77,7 +77,7 @@ impl LaneWeights {
     /// The weights themselves.
     pub(crate) fn weights(&self) -> &Weights
         ensures same { result.now ≡ self.now }
-        ensures limits { (a b : ℕ) → IsWeight (weight self.now a b) }
+        ensures limits { HasLimits self.now }
     {
         &self.weights
     }

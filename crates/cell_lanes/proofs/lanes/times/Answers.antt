@@ -1,4 +1,3 @@
-use Rattle.std.proofs.Common.{length}
 use Rattle.cell_lanes.proofs.SplitFacts.{lows-fit, highs-fit, raised-fit, sums-fit, sums-are}
 use Rattle.cell_lanes.proofs.lanes.times.Goals as goal
 

@@ -1,4 +1,4 @@
-use Rattle.std.proofs.Common.{◌≡◌, ◌∙◌, ap, sym, ℕ, ◌+◌, ◌-◌, ◌*◌, ◌≤◌, unsigned_abs, map, to_z, w64, arith}
+use Rattle.std.proofs.Common.{◌∙◌, ap, sym, ℕ, ◌+◌, ◌-◌, ◌*◌, ◌≤◌, unsigned_abs, map, to_z, w64, arith}
 use Rattle.cell_lanes.specs.Mirror.{row_alike, alike}
 use Rattle.cell_lanes.specs.Sizes.{IsPart}
 use Rattle.cell_lanes.proofs.TwoFacts.{two-back, two-same, each-bits, added}
@@ -30,9 +30,9 @@ returns c =
     let own = two-back c.alike_in_row-values.result (λ i. row i a) c.alike_in_row-values.ensures (λ i. let s = row-size i a in omega arith) in
     elim c.if-a-reach.branch [
       | then-a-reach w ↦ ap (map (to_z w64)) w.result-is
-        ∙ added _ _ w.plus.result (λ i. row i a) (λ i. row i (2 * r - a)) all own
-        (two-back w.alike_in_row.result (λ i. row i (2 * r - a)) w.alike_in_row.ensures (λ i. let s = row-size i (2 * r - a) in omega arith))
-        (λ i. sym (both-before r (row i) a w.if-a-reach.true)) (λ i. let s = size i in omega arith) w.plus.ensures
+          ∙ added _ _ w.plus.result (λ i. row i a) (λ i. row i (2 * r - a)) all own
+          (two-back w.alike_in_row.result (λ i. row i (2 * r - a)) w.alike_in_row.ensures (λ i. let s = row-size i (2 * r - a) in omega arith))
+          (λ i. sym (both-before r (row i) a w.if-a-reach.true)) (λ i. let s = size i in omega arith) w.plus.ensures
       | else-a-reach w ↦ ap (map (to_z w64)) w.result-is
-        ∙ (own ∙ two-same (λ i. row i a) all (λ i. sym (both-middle r (row i) a w.if-a-reach.false)))
+          ∙ (own ∙ two-same (λ i. row i a) all (λ i. sym (both-middle r (row i) a w.if-a-reach.false)))
     ]

@@ -1,4 +1,6 @@
-use Rattle.std.proofs.Common.{◌≡◌, ◌∙◌, ◌+◌, ◌≤◌, length, arith}
+use Rattle.std.proofs.Common.{◌≡◌, ◌∙◌, ◌+◌, ◌≤◌, length, subst, slice_index_or, int_div, pos, arith}
+use Rattle.stencil_def.specs.Step.{clamped}
+use Rattle.cell_lanes.specs.Window.{sum_at}
 use Rattle.cell_lanes.proofs.RowFacts.{row-cells, part-length, part-at, new-values}
 use Rattle.cell_lanes.specs.Padding.{new_at, with_ends}
 use Rattle.cell_lanes.proofs.row.next_row.Goals as goal
@@ -11,7 +13,7 @@ returns-clause-cells c =
     let part = part-length c.args.row.now c.reach-reach.result c.args.cols room in
     let long : length c.new_cells.new.out ≡ c.args.cols = c.new_cells.auto.out ∙ part in
     let value = new-values c.args.rule.now c.args.window.now c.args.cols c.reach-reach.result c.args.divisor.now c.new_cells.new.out e c.requires.divisor
-    (λ x h. c.new_cells.ensures.values x (omega (arith, part, h))) in
+    (λ x h. subst (λ w. slice_index_or c.new_cells.new.out x (pos 0) ≡ clamped (int_div (sum_at w c.args.window.now (c.reach-reach.result + c.args.cols + c.reach-reach.result) x) c.args.divisor.now)) c.requires.weights (c.new_cells.ensures.values x (omega (arith, part, h)))) in
     row-cells c.args.rule.now c.args.cols c.reach-reach.result (λ col. new_at c.args.rule.now c.args.window.now (with_ends c.args.rule.now c.args.cols) col)
     _ c.set_ends.new.row c.set_ends-2.new.row c.requires.cols.0 e
     (λ col h. part-at c.args.row.now c.new_cells.new.out _ c.reach-reach.result col (omega (arith, room)) (omega (arith, long, h)) ∙ value col h)

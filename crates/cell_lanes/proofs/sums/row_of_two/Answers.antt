@@ -1,4 +1,4 @@
-use Rattle.std.proofs.Common.{◌≡◌, ◌∙◌, ℕ, ◌+◌, ◌*◌, ◌≤◌, ◌<◌, ◌^◌, ◌*ℤ◌, pos, length, unsigned_abs, refl, sym, ap, subst, arith}
+use Rattle.std.proofs.Common.{◌≡◌, ◌∙◌, ℕ, ◌+◌, ◌*◌, ◌≤◌, ◌*ℤ◌, pos, length, unsigned_abs, refl, sym, ap, subst, arith}
 use Rattle.stencil_def.specs.Limits.{IsWeight, IsValue}
 use Rattle.stencil_def.specs.Square.{weight}
 use Rattle.stencil_def.proofs.SumFacts.{sum-none}

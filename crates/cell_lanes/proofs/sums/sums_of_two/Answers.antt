@@ -1,4 +1,4 @@
-use Rattle.std.proofs.Common.{◌≡◌, ◌∙◌, ℕ, ◌+◌, ◌*◌, ◌≤◌, ◌<◌, ◌^◌, pos, unsigned_abs, sym, ap, subst, arith}
+use Rattle.std.proofs.Common.{◌≡◌, ◌∙◌, ℕ, ◌+◌, ◌*◌, ◌≤◌, pos, unsigned_abs, sym, ap, subst, arith}
 use Rattle.stencil_def.proofs.SumFacts.{sum-none}
 use Rattle.cell_lanes.specs.Window.{row_sum_at, sum_at}
 use Rattle.cell_lanes.specs.Sizes.{IsSum, IsPart}
