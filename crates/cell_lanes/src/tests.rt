@@ -23,17 +23,25 @@ const MANY_MIXED: [i64; 25] = [
     3, -1, 4, -1, 5, -9, 2, 6, -5, 3, 5, -8, 9, 7, -9, 3, 2, -3, 8, 4, -6, 2, 6, -4, 3,
 ];
 
+/// Weights that are the same on both sides of the middle row and of the middle column.
+const MIRRORED: [i64; 9] = [3, -7, 3, 1000, 5, 1000, 3, -7, 3];
+
+const MANY_MIRRORED: [i64; 25] = [
+    1, -2, 3, -2, 1, 4, 5, -6, 5, 4, -7, 8, 1000, 8, -7, 4, 5, -6, 5, 4, 1, -2, 3, -2, 1,
+];
+
 /// Three rows of a grid whose edge is 10.
 const ROUND_TEN: [i64; 15] = [10, 1, 2, 3, 10, 10, 4, 5, 6, 10, 10, 7, 8, 9, 10];
 
-/// A grid of this many rows and columns with values of both signs.
-fn uneven(rt: &impl Abort, alloc: Global, rows: u32, cols: u32) -> Grid {
+/// A grid of this many rows and columns with small values of both signs, or with great ones.
+fn uneven(rt: &impl Abort, alloc: Global, rows: u32, cols: u32, is_great: bool) -> Grid {
     assert!(rt; rows >= 1 && rows <= 40 && cols >= 1 && cols <= 40);
     let mut grid = Grid::zeros(alloc, rows, cols).expect(rt, "memory");
     for row in 0..rows {
         for col in 0..cols {
             if row < grid.rows() && col < grid.cols() {
-                grid.set(row, col, i64::from(row * 37 + col * 11) - 700);
+                let small = i64::from(row * 37 + col * 11) - 700;
+                grid.set(row, col, if is_great { small * 489_999_999 } else { small });
             }
         }
     }
@@ -149,19 +157,49 @@ fn cells_of_a_lone_grid(rt: HostRuntime) {
     assert_eq!(rt; lone(&rt, alloc, 1, &many), 241);
 }
 
+/// A rule with these weights, divisor and surroundings, and a negative edge.
+fn with(weights: Weights, div: i64, around: Around) -> Rule
+    requires { IsDiv div }
+{
+    let mut rule = rule_of(weights, div);
+    rule.edge = -4;
+    rule.around = around;
+    rule
+}
+
+/// Whether a run of 3 steps is the plain run for each number of columns.
+fn is_plain(rt: &impl Abort, alloc: Global, rule: &Rule, is_great: bool) -> bool {
+    for cols in 1..41 {
+        let grid = uneven(rt, alloc, 3, cols, is_great);
+        let lanes = run_lanes(alloc, &grid, rule, 3).expect(rt, "memory");
+        let plain = run_plain(alloc, &grid, rule, 3).expect(rt, "memory");
+        if !same(&lanes, &plain) {
+            return false;
+        }
+    }
+    true
+}
+
 #[test]
 fn each_length_is_as_the_plain_run(rt: HostRuntime) {
     let alloc = rt.alloc();
-    for cols in 1..41 {
-        let grid = uneven(&rt, alloc, 3, cols);
-        let mut near = rule_of(Weights::new(&MIXED), 7);
-        near.edge = -4;
-        let mut far = rule_of(Weights::new(&MANY_MIXED), 1);
-        far.around = Around::Wrap;
-        for rule in [near, far] {
-            let lanes = run_lanes(alloc, &grid, &rule, 3).expect(&rt, "memory");
-            let plain = run_plain(alloc, &grid, &rule, 3).expect(&rt, "memory");
-            assert!(rt; same(&lanes, &plain));
-        }
+    for rule in [
+        with(Weights::new(&MIXED), 7, Around::Fixed),
+        with(Weights::new(&MANY_MIXED), 1, Around::Wrap),
+        with(Weights::new(&MIRRORED), 8, Around::Wrap),
+        with(Weights::new(&MANY_MIRRORED), 25, Around::Fixed),
+    ] {
+        assert!(rt; is_plain(&rt, alloc, &rule, false));
+        assert!(rt; is_plain(&rt, alloc, &rule, true));
     }
+}
+
+#[test]
+fn a_power_of_two_divides_by_shifts(rt: HostRuntime) {
+    let mut sums = [17, -17, 16, -16, 15, -15, 25_000_000_000_000_000];
+    Divisor::new(16).quotients(&mut sums);
+    assert_eq!(rt; sums, [1, -1, 1, -1, 0, 0, 1_000_000_000_000]);
+    let mut same = [5, -5];
+    Divisor::new(1).quotients(&mut same);
+    assert_eq!(rt; same, [5, -5]);
 }
