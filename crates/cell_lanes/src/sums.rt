@@ -145,45 +145,10 @@ fn sums_at_reach(
     }
 }
 
-/// The sums of all cells of the row, with a loop of its own for mirrored weights.
+/// The sums of all cells of the row, with a loop of its own for each reach and for mirrored weights.
 ///
-/// The weights come from memory that this function doesn't make, so that a compiler keeps their vectors.
+/// The weights come from memory that this function doesn't make, so that a compiler keeps them as vectors.
 #[inline(never)]
-fn sums_near(window: &[i64], width: usize, weights: &LaneWeights, out: &mut [i64])
-    requires window { length window.now ≡ side weights.now * width }
-    requires values { All IsValue window.now }
-    requires reach { weights.now.reach ≡ 1 }
-    requires weights { HasLimits weights.now }
-    requires out { length out.old + 2 ≡ width }
-    ensures sums { (x : ℕ) → x < length out.old → slice_index_or out.new x (pos 0) ≡ sum_at weights.now window.now width x }
-    ensures limits { All IsSum out.new }
-{
-    if weights.is_mirrored() {
-        sums_at_reach(window, width, weights, 1, true, out);
-    } else {
-        sums_at_reach(window, width, weights, 1, false, out);
-    }
-}
-
-/// The same where the weights reach two rows and columns.
-#[inline(never)]
-fn sums_far(window: &[i64], width: usize, weights: &LaneWeights, out: &mut [i64])
-    requires window { length window.now ≡ side weights.now * width }
-    requires values { All IsValue window.now }
-    requires reach { weights.now.reach ≡ 2 }
-    requires weights { HasLimits weights.now }
-    requires out { length out.old + 4 ≡ width }
-    ensures sums { (x : ℕ) → x < length out.old → slice_index_or out.new x (pos 0) ≡ sum_at weights.now window.now width x }
-    ensures limits { All IsSum out.new }
-{
-    if weights.is_mirrored() {
-        sums_at_reach(window, width, weights, 2, true, out);
-    } else {
-        sums_at_reach(window, width, weights, 2, false, out);
-    }
-}
-
-/// The plain weighted sums of a row, two cells at a time and the last of an odd number by itself.
 fn row_sums(window: &[i64], width: u32, weights: &LaneWeights, out: &mut [i64])
     requires window { length window.now ≡ side weights.now * width }
     requires values { All IsValue window.now }
@@ -191,11 +156,17 @@ fn row_sums(window: &[i64], width: u32, weights: &LaneWeights, out: &mut [i64])
     ensures sums { (x : ℕ) → x < length out.old → slice_index_or out.new x (pos 0) ≡ sum_at weights.now window.now width x }
     ensures limits { All IsSum out.new }
 {
-    let plain = weights.weights();
-    if plain.reach() == 1 {
-        sums_near(window, width as usize, weights, out);
+    let is_mirrored = weights.is_mirrored();
+    if weights.weights().reach() == 1 {
+        if is_mirrored {
+            sums_at_reach(window, width as usize, weights, 1, true, out);
+        } else {
+            sums_at_reach(window, width as usize, weights, 1, false, out);
+        }
+    } else if is_mirrored {
+        sums_at_reach(window, width as usize, weights, 2, true, out);
     } else {
-        sums_far(window, width as usize, weights, out);
+        sums_at_reach(window, width as usize, weights, 2, false, out);
     }
 }
 
