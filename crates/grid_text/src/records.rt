@@ -20,15 +20,15 @@ pub(crate) fn open(alloc: Global, text: &[u8]) -> Reader<&[u8]>
         .from_reader(alloc, text)
 }
 
-/// Reads the next record into `record`, and answers whether there was one.
-pub(crate) fn next(reader: &mut Reader<&[u8]>, record: &mut ByteRecord) -> Result<bool, TextFault>
+/// Reads the next record into `fields`, and answers whether there was one.
+pub(crate) fn next(reader: &mut Reader<&[u8]>, fields: &mut ByteRecord) -> Result<bool, TextFault>
     requires { IsReading reader.old }
     ensures reading { result ≡ Ok true → IsReading reader.new }
-    ensures found { result ≡ Ok true → left_of reader.old ≡ fields_of record.new ∷ left_of reader.new }
+    ensures found { result ≡ Ok true → left_of reader.old ≡ fields_of fields.new ∷ left_of reader.new }
     ensures none { result ≡ Ok false → left_of reader.old ≡ [] }
     ensures fault { IfErr result (λ fault. fault ≡ NoMemory) }
 {
-    let Ok(found) = reader.read_byte_record(record) else {
+    let Ok(found) = reader.read_byte_record(fields) else {
         return Err(TextFault::NoMemory);
     };
     Ok(found)

@@ -91,19 +91,19 @@ fn number(field: &[u8], limit: u64, row: u32, col: u32) -> Result<i64, TextFault
 /// Puts the numbers in the fields of a row behind `values`.
 fn push_numbers(
     values: &mut Vec<i64>,
-    record: &ByteRecord,
+    fields: &ByteRecord,
     limit: u64,
     row: u32,
 ) -> Result<(), TextFault>
     requires limit { limit < 2 ^ 63 }
-    requires few { length (fields_of record.now) ≤ 4096 }
-    ensures ok { OnOk result (values.new.items ≡ values.old.items ++ map value_of (fields_of record.now)) }
-    ensures faultless { OnOk result (numbered (field_faults limit row) (fields_of record.now) ≡ []) }
+    requires few { length (fields_of fields.now) ≤ 4096 }
+    ensures ok { OnOk result (values.new.items ≡ values.old.items ++ map value_of (fields_of fields.now)) }
+    ensures faultless { OnOk result (numbered (field_faults limit row) (fields_of fields.now) ≡ []) }
     ensures fault { IfErr result (λ fault. fault ≢ NoMemory →
-        slice_get (numbered (field_faults limit row) (fields_of record.now)) 0 ≡ Some fault) }
+        slice_get (numbered (field_faults limit row) (fields_of fields.now)) 0 ≡ Some fault) }
 {
     let mut col = 0;
-    while let Some(field) = record.get(col) {
+    while let Some(field) = fields.get(col) {
         col += 1;
         values.push(number(field, limit, row, col as u32)?)?;
     }
@@ -118,21 +118,21 @@ fn cols_with(rows: &Rows, count: usize) -> usize
 }
 
 /// Takes one more row, where it has no fault.
-fn push_row(rows: &mut Rows, kind: TextKind, record: &ByteRecord) -> Result<(), TextFault>
+fn push_row(rows: &mut Rows, kind: TextKind, fields: &ByteRecord) -> Result<(), TextFault>
     requires { rows.old.rows ≤ 4096 }
     ensures ok { OnOk result ((before : List (List (List ℕ))) → AreKept kind before rows.old →
-        AreKept kind (before ++ fields_of record.now ∷ []) rows.new) }
+        AreKept kind (before ++ fields_of fields.now ∷ []) rows.new) }
     ensures fault { IfErr result (λ fault. fault ≢ NoMemory →
         (before : List (List (List ℕ))) → AreKept kind before rows.old →
-        slice_get (rows_faults kind (before ++ fields_of record.now ∷ [])) 0 ≡ Some fault) }
+        slice_get (rows_faults kind (before ++ fields_of fields.now ∷ [])) 0 ≡ Some fault) }
 {
-    let count = record.len();
+    let count = fields.len();
     rows.cols = cols_with(rows, count);
     rows.rows += 1;
     if let Some(fault) = shape_fault(kind, rows.cols, rows.rows, count) {
         return Err(fault);
     }
-    push_numbers(&mut rows.values, record, limit(kind), rows.rows)
+    push_numbers(&mut rows.values, fields, limit(kind), rows.rows)
 }
 
 /// The rows of a text, where there is at least one and none has a fault.
@@ -143,14 +143,14 @@ pub(crate) fn read_rows(alloc: Global, text: &[u8], kind: TextKind) -> Result<Ro
         slice_get (text_faults kind (records_of text.now)) 0 ≡ Some fault) }
 {
     let mut reader = records::open(alloc, text);
-    let mut record = ByteRecord::new(alloc);
+    let mut fields = ByteRecord::new(alloc);
     let mut rows = Rows {
         rows: 0,
         cols: 0,
         values: Vec::new(alloc),
     };
-    while records::next(&mut reader, &mut record)? {
-        push_row(&mut rows, kind, &record)?;
+    while records::next(&mut reader, &mut fields)? {
+        push_row(&mut rows, kind, &fields)?;
     }
     if rows.rows == 0 {
         return Err(TextFault::Empty);

@@ -2,7 +2,7 @@
 
 ghost use Rattle.std.specs.Prelude.{◌≡◌, ◌*◌, ◌↔◌, ◌≤◌, IfOk, IsTrue};
 ghost use Rattle.part_geometry.specs.Shape.{IsShape, IsWithin, send_total};
-ghost use Rattle.part_geometry.specs.Making.{both_within, geometry_of};
+ghost use Rattle.part_geometry.specs.Making.{both_within, geometry_of, parts_answer};
 
 use std::marker::Model;
 use thiserror::Error;
@@ -94,6 +94,24 @@ fn both_in(low: u32, high: u32, m: u32, n: u32) -> bool
     low <= m && m <= high && low <= n && n <= high
 }
 
+/// Refuses numbers of partitions, and then bytes of a partition, that are out of their ranges.
+fn check_parts(
+    send_parts: u32,
+    send_bytes: u32,
+    recv_parts: u32,
+    recv_bytes: u32,
+) -> Result<(), GeometryFault>
+    ensures { result ≡ parts_answer send_parts send_bytes recv_parts recv_bytes }
+{
+    if !both_in(1, MAX_PARTS, send_parts, recv_parts) {
+        return Err(GeometryFault::BadParts);
+    }
+    if !both_in(1, MAX_PART_BYTES, send_bytes, recv_bytes) {
+        return Err(GeometryFault::BadBytes);
+    }
+    Ok(())
+}
+
 impl Geometry {
     /// The geometry of `send_parts` partitions of `send_bytes` bytes at the sender and `recv_parts` partitions of
     /// `recv_bytes` bytes at the receiver, with pieces of at least `grain` bytes and `depth` rounds in flight.
@@ -116,12 +134,7 @@ impl Geometry {
         } }
         ensures limits { IfOk result IsShape }
     {
-        if !both_in(1, MAX_PARTS, send_parts, recv_parts) {
-            return Err(GeometryFault::BadParts);
-        }
-        if !both_in(1, MAX_PART_BYTES, send_bytes, recv_bytes) {
-            return Err(GeometryFault::BadBytes);
-        }
+        check_parts(send_parts, send_bytes, recv_parts, recv_bytes)?;
         let send_total = send_parts * send_bytes;
         let recv_total = recv_parts * recv_bytes;
         if !both_in(0, MAX_TOTAL, send_total, recv_total) {

@@ -1,3 +1,4 @@
 pub mod Keeping
 pub mod Holding
 pub mod TakeLaws
+pub mod HexFacts

@@ -54,10 +54,7 @@ impl MatchedPair {
             Tells self.old self.new result (λ d. own_answer g side d action.now) (λ d. after_own g side d action.now) }
     {
         match action {
-            Action::Start => {
-                let round = self.start(side);
-                texts::start(alloc, round)
-            }
+            Action::Start => texts::start(alloc, self.start(side)),
             Action::Ready {
                 round,
                 partition,
@@ -85,15 +82,9 @@ impl MatchedPair {
             }
             Action::Arrived { q } => texts::arrived(alloc, self.arrived(*q)),
             Action::Take { q } => self.take(alloc, *q),
-            Action::Back { q } => {
-                let is_kept = self.back(*q);
-                texts::back(alloc, is_kept)
-            }
+            Action::Back { q } => texts::back(alloc, self.back(*q)),
             Action::Test => self.test(alloc, side),
-            Action::Free => {
-                let freed = self.free(side);
-                texts::free(alloc, freed)
-            }
+            Action::Free => texts::free(alloc, self.free(side)),
         }
     }
 

@@ -1,7 +1,7 @@
 //! The text of each answer.
 
-ghost use Rattle.std.specs.Prelude.{◌≡◌, ◌<◌, ◌++◌, string_bytes, IfOk, OnOk};
-ghost use Rattle.script_pair.specs.Texts.{start_text, refusal_text, ready_text, marks_text, arrived_text, hex_digit, hex_of, untaken_text, bytes_text, back_text, send_test_text, recv_test_text, free_text, closed_text};
+ghost use Rattle.std.specs.Prelude.{◌≡◌, string_bytes, IfOk};
+ghost use Rattle.script_pair.specs.Texts.{start_text, refusal_text, ready_text, marks_text, arrived_text, untaken_text, bytes_text, back_text, send_test_text, recv_test_text, free_text, closed_text};
 
 use part_api::{FreeFault, ReqFault};
 use part_geometry::{Marked, Marks, RecvTest};
@@ -71,26 +71,6 @@ pub(crate) fn arrived(alloc: Global, look: PlainLook) -> Result<String, AllocErr
     }
 }
 
-/// A hexadecimal digit in lower case.
-fn hex_digit(n: u8) -> char
-    requires { n < 16 }
-    ensures { result ≡ hex_digit n }
-{
-    let code = if n < 10 { b'0' + n } else { b'a' + (n - 10) };
-    char::from(code)
-}
-
-/// Appends two hexadecimal digits for each byte.
-fn push_hex(text: &mut String, bytes: &[u8]) -> Result<(), AllocError>
-    ensures { OnOk result (string_bytes text.new ≡ string_bytes text.old ++ hex_of bytes.now) }
-{
-    for &byte in bytes {
-        text.push(hex_digit(byte / 16))?;
-        text.push(hex_digit(byte % 16))?;
-    }
-    Ok(())
-}
-
 /// The text of why a partition wasn't taken.
 pub(crate) fn untaken(alloc: Global, cause: PlainTake) -> Result<String, AllocError>
     ensures { IfOk result (λ text. string_bytes text ≡ untaken_text cause) }
@@ -107,9 +87,8 @@ pub(crate) fn untaken(alloc: Global, cause: PlainTake) -> Result<String, AllocEr
 pub(crate) fn bytes(alloc: Global, bytes: &[u8]) -> Result<String, AllocError>
     ensures { IfOk result (λ text. string_bytes text ≡ bytes_text bytes.now) }
 {
-    let mut text = String::from_str(alloc, "bytes ")?;
-    push_hex(&mut text, bytes)?;
-    Ok(text)
+    let digits = hex::encode(alloc, bytes)?;
+    format!(in alloc; "bytes {digits}")
 }
 
 /// The text of a return, by whether the arrival was kept.

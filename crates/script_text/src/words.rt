@@ -3,9 +3,10 @@
 ghost use Rattle.std.specs.Prelude.{◌≡◌, IfOk, option_map};
 ghost use Rattle.std.specs.List.{list_all};
 ghost use Rattle.script_text.specs.Lines.{texts};
-ghost use Rattle.script_text.specs.Words.{decimal_of, number_of, is_name_byte, is_name, hex_digit_of, pair_of, pairs_of, bytes_of, each_number, numbers_of};
+ghost use Rattle.script_text.specs.Words.{decimal_of, number_of, is_name_byte, is_name, pairs_of, bytes_of, each_number, numbers_of};
 
 use crate::lines::split;
+use hex::FromHexError;
 use std::alloc::{AllocError, Global};
 
 /// The most digits of a number.
@@ -81,42 +82,16 @@ pub(crate) fn numbers(alloc: Global, word: &[u8]) -> Result<Option<Vec<u32>>, Al
     each_number(alloc, &words)
 }
 
-/// The value of a hexadecimal digit.
-fn hex_digit(byte: u8) -> Option<u8>
-    ensures { result ≡ hex_digit_of byte }
-{
-    match byte {
-        b'0'..=b'9' => Some(byte - b'0'),
-        b'A'..=b'F' => Some(byte - b'A' + 10),
-        b'a'..=b'f' => Some(byte - b'a' + 10),
-        _ => None,
-    }
-}
-
-/// The byte of two hexadecimal digits, the high one first.
-fn pair(high: u8, low: u8) -> Option<u8>
-    ensures { result ≡ pair_of high low }
-{
-    Some(16 * hex_digit(high)? + hex_digit(low)?)
-}
-
 /// The bytes of an even number of hexadecimal digits.
 fn pairs(alloc: Global, word: &[u8]) -> Result<Option<Vec<u8>>, AllocError>
     ensures { IfOk result (λ bytes. option_map (λ v. v.items) bytes ≡ pairs_of word.now) }
 {
-    let mut bytes = Vec::with_capacity(alloc, word.len() / 2)?;
-    let mut rest = word;
-    while let [high, low, after @ ..] = rest {
-        let Some(byte) = pair(*high, *low) else {
-            return Ok(None);
-        };
-        bytes.push(byte)?;
-        rest = after;
-    }
-    if rest.is_empty() {
-        Ok(Some(bytes))
-    } else {
-        Ok(None)
+    match hex::decode(alloc, word) {
+        Ok(bytes) => Ok(Some(bytes)),
+        Err(fault) => match fault {
+            FromHexError::OutOfMemory => Err(AllocError),
+            _ => Ok(None),
+        },
     }
 }
 

@@ -3,6 +3,7 @@
 use super::*;
 use part_io::{SteadyShelf, SteadySink};
 use std::alloc::{AllocError, Global};
+use std::process::Abort;
 use std::test::*;
 
 const USAGE: &str = "usage: partstencil stencil OPTIONS | partstencil script FILE\n";
@@ -61,24 +62,46 @@ fn outputs_are_written(rt: HostRuntime) -> Result<(), Fail> {
     Ok(())
 }
 
+/// Runs these words, and sees that they end with a status and without output, and what is noted.
+fn assert_noted(
+    rt: &impl Abort,
+    alloc: Global,
+    shelf: &mut SteadyShelf,
+    texts: &[&str],
+    status: Status,
+    line: &str,
+) -> Result<(), Fail> {
+    let mut out = SteadySink::new(alloc, 100)?;
+    let mut note = SteadySink::new(alloc, 100)?;
+    let words = words(alloc, texts)?;
+    let ended = run_serial(alloc, &words, shelf, &mut out, &mut note);
+    assert_eq!(rt; ended, status);
+    assert_eq!(rt; out.bytes(), b"".as_slice());
+    assert_eq!(rt; note.bytes(), line.as_bytes());
+    Ok(())
+}
+
 #[test]
-fn runs_without_output_note_why(rt: HostRuntime) -> Result<(), Fail> {
+fn bad_words_note_the_usage(rt: HostRuntime) -> Result<(), Fail> {
+    let runs: [&[&str]; 6] = [
+        &[],
+        &["--help"],
+        &["stencil"],
+        &["stencil", "--make", "1,2,2", "--steps", "10001"],
+        &["stencil", "--make", "1,2,2", "--edge", "-5"],
+        &["script", "-first.txt"],
+    ];
     let alloc = rt.alloc();
-    let runs: [(&[&str], Status, &str); 9] = [
-        (&[], Status::Usage, USAGE),
-        (&["--help"], Status::Usage, USAGE),
-        (&["stencil"], Status::Usage, USAGE),
-        (
-            &["stencil", "--make", "1,2,2", "--steps", "10001"],
-            Status::Usage,
-            USAGE,
-        ),
-        (
-            &["stencil", "--make", "1,2,2", "--edge", "-5"],
-            Status::Usage,
-            USAGE,
-        ),
-        (&["script", "-first.txt"], Status::Usage, USAGE),
+    let mut shelf = shelf(alloc)?;
+    for texts in runs {
+        assert_noted(&rt, alloc, &mut shelf, texts, Status::Usage, USAGE)?;
+    }
+    Ok(())
+}
+
+#[test]
+fn bad_files_are_noted(rt: HostRuntime) -> Result<(), Fail> {
+    let runs: [(&[&str], Status, &str); 3] = [
         (
             &["script", "missing.txt"],
             Status::ReadFault,
@@ -95,15 +118,10 @@ fn runs_without_output_note_why(rt: HostRuntime) -> Result<(), Fail> {
             "partstencil: grid: empty\n",
         ),
     ];
+    let alloc = rt.alloc();
     let mut shelf = shelf(alloc)?;
     for (texts, status, line) in runs {
-        let mut out = SteadySink::new(alloc, 100)?;
-        let mut note = SteadySink::new(alloc, 100)?;
-        let words = words(alloc, texts)?;
-        let ended = run_serial(alloc, &words, &mut shelf, &mut out, &mut note);
-        assert_eq!(rt; ended, status);
-        assert_eq!(rt; out.bytes(), b"".as_slice());
-        assert_eq!(rt; note.bytes(), line.as_bytes());
+        assert_noted(&rt, alloc, &mut shelf, texts, status, line)?;
     }
     Ok(())
 }

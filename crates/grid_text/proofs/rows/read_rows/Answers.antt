@@ -19,9 +19,9 @@ pub loop-rows-preserved : goal.loop-rows-preserved
 loop-rows-preserved c =
     let e = c.in_ok-next.ensures.found (ap Ok c.if-branch.true) in
     let before = c.loop-rows.invariant.1.0 in
-    let all = c.loop-rows.invariant.1.1 ∙ (ap (λ (rest : List (List (List ℕ))). before ++ rest) e ∙ sym (append_assoc before (fields_of c.next.new.record ∷ []) (left_of c.next.new.reader))) in (
+    let all = c.loop-rows.invariant.1.1 ∙ (ap (λ (rest : List (List (List ℕ))). before ++ rest) e ∙ sym (append_assoc before (fields_of c.next.new.fields ∷ []) (left_of c.next.new.reader))) in (
       c.in_ok-next.ensures.reading (ap Ok c.if-branch.true),
-      (before ++ fields_of c.next.new.record ∷ [], all, c.in_ok-push_row.ensures.ok before c.loop-rows.invariant.1.2),
+      (before ++ fields_of c.next.new.fields ∷ [], all, c.in_ok-push_row.ensures.ok before c.loop-rows.invariant.1.2),
     )
 
 pub returns-in_err-push_row-clause-fault : goal.returns-in_err-push_row-clause-fault
@@ -29,5 +29,5 @@ returns-in_err-push_row-clause-fault c =
     let p = err_from_is_err_and c.from_residual-in_err-push_row.result c.from_residual-in_err-push_row.ensures.1 in
     let e = c.in_ok-next.ensures.found (ap Ok c.if-branch.true) in
     let before = c.loop-rows.invariant.1.0 in
-    let all = c.loop-rows.invariant.1.1 ∙ (ap (λ (rest : List (List (List ℕ))). before ++ rest) e ∙ sym (append_assoc before (fields_of c.next.new.record ∷ []) (left_of c.next.new.reader))) in
-    rw (p.1, p.2) (λ real. rw all (text-front c.args.kind (before ++ fields_of c.next.new.record ∷ []) (left_of c.next.new.reader) _ (c.in_err-push_row.ensures.fault real before c.loop-rows.invariant.1.2)))
+    let all = c.loop-rows.invariant.1.1 ∙ (ap (λ (rest : List (List (List ℕ))). before ++ rest) e ∙ sym (append_assoc before (fields_of c.next.new.fields ∷ []) (left_of c.next.new.reader))) in
+    rw (p.1, p.2) (λ real. rw all (text-front c.args.kind (before ++ fields_of c.next.new.fields ∷ []) (left_of c.next.new.reader) _ (c.in_err-push_row.ensures.fault real before c.loop-rows.invariant.1.2)))

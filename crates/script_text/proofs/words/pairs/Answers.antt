@@ -1,7 +1,12 @@
-use Rattle.script_text.proofs.Pairs.{goes_on}
+use Rattle.std.proofs.Common.{inl, inr, sym, ap, ◌∙◌}
+use Rattle.script_text.proofs.Pairs.{ok_of, pairs-decode}
 use Rattle.script_text.proofs.words.pairs.Goals as goal
 
-pub loop-rest-preserved : goal.loop-rest-preserved
-loop-rest-preserved c =
-    rw c.in_ok-push.ensures.items
-    (goes_on c.loop-rest.bytes.items c.loop-rest.rest.now c.in-Some.byte _ c.in-len2-up.len_at_least c.in-Some.ensures c.loop-rest.invariant)
+pub returns-in-Ok : goal.returns-in-Ok
+returns-in-Ok c = sym (pairs-decode c.args.word.now ∙ ap ok_of c.in-Ok.ensures.ok)
+
+pub returns-in_default : goal.returns-in_default
+returns-in_default c = elim c.in-Err.ensures.err [
+  | inl memory ↦ absurd (c.in_default.not-OutOfMemory memory)
+  | inr refused ↦ sym (pairs-decode c.args.word.now ∙ ap ok_of refused)
+]
