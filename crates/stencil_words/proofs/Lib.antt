@@ -1,2 +1,3 @@
 pub mod OptionFacts
 pub mod WordFacts
+pub mod WalkFacts

@@ -1,0 +1,20 @@
+-- The command as `clap` reads it: seven options, each with its name in full and one value.
+use Rattle.std.specs.Prelude.{◌≡◌, true, List, [], ◌∷◌, map, codes, Some}
+use Rattle.stencil_words.specs.Options.{Text, value}
+use Rattle.clap.specs.Words.{App, Rule, first_value, found_of, new_app, new_rule}
+use Rattle.clap.specs.Simple.{on_top}
+use Rattle.clap.specs.declared.builder.action.ArgAction.TheVariants.{Set}
+
+-- the names of the options
+abbrev pub names : List Text
+names =
+    codes "grid" ∷ codes "make" ∷ codes "weights" ∷ codes "steps" ∷ codes "div" ∷ codes "edge" ∷ codes "around" ∷ []
+
+-- the argument of a name
+abbrev pub option_rule : Text → Rule
+option_rule name = record (new_rule name) { long = Some name; action = Some Set }
+
+-- the command, without flags for help
+abbrev pub stencil_app : App
+stencil_app =
+    on_top (λ s. record s { rules = map option_rule names; disable_help_flag = true }) (new_app (codes "stencil"))
