@@ -5,7 +5,7 @@ use Rattle.std.specs.List.{after_first, before_first, fold, list_any, list_all, 
 use Rattle.std.proofs.lemmas.Bool.Decides.{Decides-like, nat_tests, same_from_decides}
 use Rattle.std.proofs.lemmas.List.{map-append, take_all}
 use Rattle.std.proofs.lemmas.Slice.Eq.{bytes_eq-Decides}
-use Rattle.stencil_words.specs.Options.{◌>>=◌, Pair, Text, before, divided, has, has_equals, is_empty, is_equals, is_name, is_value, joined, name_part, options_of, paired, undashed, value, when}
+use Rattle.stencil_words.specs.Options.{or_else as or_other, ◌>>=◌, Pair, Text, before, divided, has, has_equals, is_empty, is_equals, is_name, is_value, joined, name_part, options_of, paired, undashed, value, when}
 use Rattle.stencil_words.specs.Command.{names, option_rule, stencil_app}
 use Rattle.clap.specs.Faults.{fault_of, is_simple_and_free, settle_fault, turn_fault, use_fault, walk_fault}
 use Rattle.clap.specs.Kinds.{Kinds, or_else}
@@ -414,16 +414,21 @@ main-none : (ns : List Text) (done : List Pair) (p : Option Pair) → is_known n
 unfolding walk_fault
 main-none ns done p k = settles-is ns done p k ∙ ap (λ l. option_map rows (accepted ns done l)) (sym (append-nil (listed p)))
 
+-- a name that isn't known
+refused-name : (ns : List Text) (done : List Pair) (p : Option Pair) (q : Pair) (more : List Pair) → is_among ns q.0 ≡ false
+    → None ≡ option_map rows (accepted ns done (listed p ++ q ∷ more))
+refused-name ns done p q more e = rw (accepted-more ns done p (q ∷ more), e) (by (accepted ns done (listed p)))
+  where
+    by : (o : Option (List Pair)) → None ≡ option_map rows (o >>= λ d. when false d >>= λ d2. add d2 q >>= λ d3. accepted ns d3 more)
+    by None = refl
+    by (Some d) = refl
+
 -- one more option
 joined-next : (ns : List Text) (done : List Pair) (p : Option Pair) (word : Text) (q : Pair) (rest : List Text) (more : List Pair) → is_known ns p ≡ true → IsJoined word q
     → ((now : List Pair) → outcome ns (between (rows now) None) rest ≡ option_map rows (accepted ns now more))
     → outcome ns (between (rows done) (as_pending p)) (word ∷ rest) ≡ option_map rows (accepted ns done (listed p ++ q ∷ more))
 joined-next ns done p word q rest more k j h = by (is_among ns q.0) refl
   where
-    nothing : (o : Option (List Pair)) → None ≡ option_map rows (o >>= λ d. when false d >>= λ d2. add d2 q >>= λ d3. accepted ns d3 more)
-    nothing None = refl
-    nothing (Some d) = refl
-
     each : (o : Option (List Pair))
         → (option_map rows o >>= λ u. outcome ns (between u None) rest) ≡ option_map rows (o >>= λ now. accepted ns now more)
     each None = refl
@@ -439,7 +444,7 @@ joined-next ns done p word q rest more k j h = by (is_among ns q.0) refl
         → outcome ns (between (rows done) (as_pending p)) (word ∷ rest) ≡ option_map rows (accepted ns done (listed p ++ q ∷ more))
     by false e =
         joined-unknown ns (rows done) (as_pending p) word q rest j e
-        ∙ rw (accepted-more ns done p (q ∷ more), e) (nothing (accepted ns done (listed p)))
+        ∙ refused-name ns done p q more e
     by true e =
         joined-known ns (rows done) (as_pending p) word q rest j e
         ∙ ap (λ o. o >>= λ r. after_use r q.0 q.1 >>= λ u. outcome ns (between u None) rest) (settles-is ns done p k)
@@ -451,10 +456,6 @@ paired-next : (ns : List Text) (done : List Pair) (p : Option Pair) (word next :
     → outcome ns (between (rows done) (as_pending p)) (word ∷ next ∷ rest) ≡ option_map rows (accepted ns done (listed p ++ q ∷ more))
 paired-next ns done p word next q rest more k j h = by (is_among ns q.0) refl
   where
-    nothing : (o : Option (List Pair)) → None ≡ option_map rows (o >>= λ d. when false d >>= λ d2. add d2 q >>= λ d3. accepted ns d3 more)
-    nothing None = refl
-    nothing (Some d) = refl
-
     all : ((now : List Pair) → outcome ns (between (rows now) (as_pending (Some q))) rest ≡ option_map rows (accepted ns now (q ∷ more))) → (o : Option (List Pair))
         → (option_map rows o >>= λ r. outcome ns (between r (as_pending (Some q))) rest) ≡ option_map rows (o >>= λ d. accepted ns d (q ∷ more))
     all g None = refl
@@ -464,8 +465,56 @@ paired-next ns done p word next q rest more k j h = by (is_among ns q.0) refl
         → outcome ns (between (rows done) (as_pending p)) (word ∷ next ∷ rest) ≡ option_map rows (accepted ns done (listed p ++ q ∷ more))
     by false e =
         paired-unknown ns (rows done) (as_pending p) word next q (next ∷ rest) j e
-        ∙ rw (accepted-more ns done p (q ∷ more), e) (nothing (accepted ns done (listed p)))
+        ∙ refused-name ns done p q more e
     by true e =
         paired-known ns (rows done) (as_pending p) word next q rest j e
         ∙ ap (λ o. o >>= λ r. outcome ns (between r (as_pending (Some q))) rest) (settles-is ns done p k)
         ∙ all (h e) (accepted ns done (listed p)) ∙ ap (option_map rows) (sym (accepted-more ns done p (q ∷ more)))
+
+before-is : (q : Pair) (o : Option (List Pair)) (options : List Pair) → before q o ≡ Some options
+    → (more : List Pair) × (o ≡ Some more) × (options ≡ q ∷ more)
+before-is q None options e = cc e
+before-is q (Some more) options e = let same : q ∷ more ≡ options = cc in (more, refl, sym same)
+
+outcome-is : (ns : List Text) (done : List Pair) (p : Option Pair) (words : List Text) (options : List Pair) → is_among ns [] ≡ false → is_known ns p ≡ true
+    → options_of words ≡ Some options
+    → outcome ns (between (rows done) (as_pending p)) words ≡ option_map rows (accepted ns done (listed p ++ options))
+unfolding options_of
+outcome-is ns done p [] options n k e = let same : [] ≡ options = cc in rw (← same) (main-none ns done p k)
+outcome-is ns done p (word ∷ []) options n k e = by (joined word) refl e (λ now. outcome-is ns now None [] [] n refl refl)
+  where
+    by : (o : Option Pair) → joined word ≡ o → or_other o (Some []) None ≡ Some options
+        → ((now : List Pair) → outcome ns (between (rows now) None) [] ≡ option_map rows (accepted ns now []))
+        → outcome ns (between (rows done) (as_pending p)) (word ∷ []) ≡ option_map rows (accepted ns done (listed p ++ options))
+    by None f g h = cc g
+    by (Some q) f g h =
+        let same : q ∷ [] ≡ options = cc in
+        rw (← same) (joined-next ns done p word q [] [] k (joined-is word q f) h)
+outcome-is ns done p (word ∷ next ∷ rest) options n k e =
+    by (joined word) refl (paired word next) refl e (λ now more. outcome-is ns now None (next ∷ rest) more n refl)
+    (λ now q more. outcome-is ns now (Some q) rest more n)
+  where
+    Goal : Type 0
+    Goal = outcome ns (between (rows done) (as_pending p)) (word ∷ next ∷ rest) ≡ option_map rows (accepted ns done (listed p ++ options))
+
+    two : (q : Pair) (more : List Pair) → options ≡ q ∷ more → ((word ≡ 45 ∷ 45 ∷ []) × (q.0 ≡ [])) ⊎ IsPaired word next q
+        → ((now : List Pair) → is_among ns q.0 ≡ true → outcome ns (between (rows now) (as_pending (Some q))) rest ≡ option_map rows (accepted ns now (q ∷ more)))
+        → Goal
+    two q more o (inl w) h =
+        rw (o, w.0) (dashes-refused ns (rows done) (as_pending p) next rest ∙ refused-name ns done p q more (ap (is_among ns) w.1 ∙ n))
+    two q more o (inr j) h = rw o (paired-next ns done p word next q rest more k j (λ a now. h now a))
+
+    by : (o : Option Pair) → joined word ≡ o → (o2 : Option Pair) → paired word next ≡ o2
+        → or_other o (options_of (next ∷ rest)) (or_other o2 (options_of rest) None) ≡ Some options
+        → ((now more : List Pair) → options_of (next ∷ rest) ≡ Some more
+        → outcome ns (between (rows now) None) (next ∷ rest) ≡ option_map rows (accepted ns now more))
+        → ((now : List Pair) (q : Pair) (more : List Pair) → is_among ns q.0 ≡ true → options_of rest ≡ Some more
+        → outcome ns (between (rows now) (as_pending (Some q))) rest ≡ option_map rows (accepted ns now (q ∷ more)))
+        → Goal
+    by (Some q) f o2 f2 g h1 h2 =
+        let b = before-is q (options_of (next ∷ rest)) options g in
+        rw b.2 (joined-next ns done p word q (next ∷ rest) b.0 k (joined-is word q f) (λ now. h1 now b.0 b.1))
+    by None f (Some q) f2 g h1 h2 =
+        let b = before-is q (options_of rest) options g in
+        two q b.0 b.2 (paired-is word next q f2) (λ now a. h2 now q b.0 a b.1)
+    by None f None f2 g h1 h2 = cc g
