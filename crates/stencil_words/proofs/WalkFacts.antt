@@ -1,17 +1,19 @@
 -- What `clap` makes of words that have the two forms of an option.
 use Rattle.std.proofs.Common.{◌≡◌, ◌∙◌, ℕ, Bool, true, false, not, ◌&&◌, ◌||◌, cond, true≢false, List, [], ◌∷◌, ◌++◌, map, length, Option, Some, None, refl, sym, ap, ap₂, codes, ◌<◌, ◌≤◌, ◌+◌, ◌⊎◌, inl, inr, suc, append-nil, append_assoc, arith}
-use Rattle.std.specs.Prelude.{bytes_eq, find, is_some, option_and_then, option_map, ◌==◌, nat_lt, if◌then◌else◌}
+use Rattle.std.specs.Prelude.{bytes_eq, find, is_some, option_and_then, drop, option_map, ◌==◌, nat_lt, slice_get, if◌then◌else◌}
 use Rattle.std.specs.List.{after_first, before_first, fold, list_any, list_all, position_or_len}
 use Rattle.std.proofs.lemmas.Bool.Decides.{Decides-like, nat_tests, same_from_decides}
+use Rattle.std.proofs.lemmas.List.Folds.{list_any-append}
 use Rattle.std.proofs.lemmas.List.{map-append, take_all}
 use Rattle.std.proofs.lemmas.Slice.Eq.{bytes_eq-Decides}
-use Rattle.stencil_words.specs.Options.{or_else as or_other, ◌>>=◌, Pair, Text, before, divided, has, has_equals, is_empty, is_equals, is_name, is_value, joined, name_part, options_of, paired, undashed, value, when}
+use Rattle.stencil_words.specs.Options.{or_else as or_other, ◌>>=◌, Pair, Text, are_sound, before, divided, has, has_equals, is_empty, is_equals, is_name, is_value, joined, name_part, options_of, paired, undashed, value, when}
 use Rattle.stencil_words.specs.Command.{names, option_rule, stencil_app}
-use Rattle.clap.specs.Faults.{fault_of, is_simple_and_free, settle_fault, turn_fault, use_fault, walk_fault}
+use Rattle.clap.specs.Faults.{check_fault, default_fault, defaults_fault, entered_fault, fault_of, given_default_fault, level_fault, is_simple_and_free, settle_fault, turn_fault, use_fault, walk_fault}
 use Rattle.clap.specs.Kinds.{Kinds, or_else}
 use Rattle.clap.specs.Lexer.{has_byte, long_of, short_of}
-use Rattle.clap.specs.Simple.{Shape, built, filled, is_simple, new_shape}
-use Rattle.clap.specs.Walk.{Held, Row, Rule, Walk, arg_by_id, arg_by_index, arg_by_long, at_row, has_row, idle, more_values, option, reading_by, settled_rows, used, walked, with_values, without}
+use Rattle.clap.specs.Simple.{Shape, built, entered, filled, is_simple, matches_of, new_shape}
+use Rattle.clap.specs.Takes.{is_given}
+use Rattle.clap.specs.Walk.{finished, first_of, nothing_held, walk, with_default, Held, Row, Rule, Walk, arg_by_id, arg_by_index, arg_by_long, at_row, has_row, idle, more_values, option, reading_by, settled_rows, used, walked, with_values, without}
 use Rattle.clap.specs.declared.parser.matches.ValueSource.TheVariants.{CommandLine}
 
 -- the argument of a name, once the command is built
@@ -518,3 +520,178 @@ outcome-is ns done p (word ∷ next ∷ rest) options n k e =
         let b = before-is q (options_of rest) options g in
         two q b.0 b.2 (paired-is word next q f2) (λ now a. h2 now q b.0 a b.1)
     by None f None f2 g h1 h2 = cc g
+
+-- ---- the options of the definition
+
+-- each of the later names is new
+abbrev apart : List Pair → List Pair → Bool
+apart done options = list_all (λ q. not (has q.0 done)) options
+
+apart-none : (options : List Pair) → apart [] options ≡ true
+apart-none [] = refl
+apart-none (q ∷ rest) = apart-none rest
+
+apart-more : (done : List Pair) (p : Pair) (options : List Pair) → apart (done ++ p ∷ []) options ≡ (apart done options && not (has p.0 options))
+apart-more done p [] = refl
+apart-more done p (q ∷ rest) =
+    rw (list_any-append (λ x. bytes_eq x.0 q.0) done (p ∷ []), apart-more done p rest, swap-text p.0 q.0)
+    (by (has q.0 done) (bytes_eq q.0 p.0) (apart done rest) (has p.0 rest))
+  where
+    by : (a b c d : Bool) → (not (a || (b || false)) && (c && not d)) ≡ ((not a && c) && not (b || d))
+    by true b c d = refl
+    by false true true d = refl
+    by false true false d = refl
+    by false false c d = refl
+
+accepted-is : (ns : List Text) → ((n : Text) → is_among ns n ≡ is_name n) → (done options : List Pair)
+    → accepted ns done options ≡ when (are_sound options && apart done options) (done ++ options)
+accepted-is ns named done [] = ap Some (sym (append-nil done))
+accepted-is ns named done (p ∷ rest) =
+    rw (named p.0) (known-first (is_name p.0) (new-first (has p.0 done)
+    (accepted-is ns named (done ++ p ∷ []) rest
+    ∙ ap₂ (λ (b : Bool) (l : List Pair). when (are_sound rest && b) l) (apart-more done p rest) (append_assoc done (p ∷ []) rest))))
+  where
+    off : (c s : Bool) → None ≡ when ((not c && s) && false) (done ++ p ∷ rest)
+    off true s = refl
+    off false true = refl
+    off false false = refl
+
+    on : (c s d : Bool) → when (s && (d && not c)) (done ++ p ∷ rest) ≡ when ((not c && s) && d) (done ++ p ∷ rest)
+    on true true true = refl
+    on true true false = refl
+    on true false d = refl
+    on false true true = refl
+    on false true false = refl
+    on false false d = refl
+
+    new-first : (b : Bool)
+        → accepted ns (done ++ p ∷ []) rest ≡ when (are_sound rest && (apart done rest && not (has p.0 rest))) (done ++ p ∷ rest)
+        → (when (not b) (done ++ p ∷ []) >>= λ more. accepted ns more rest)
+        ≡ when ((not (has p.0 rest) && are_sound rest) && (not b && apart done rest)) (done ++ p ∷ rest)
+    new-first true h = off (has p.0 rest) (are_sound rest)
+    new-first false h = h ∙ on (has p.0 rest) (are_sound rest) (apart done rest)
+
+    known-first : (a : Bool)
+        → (add done p >>= λ more. accepted ns more rest)
+        ≡ when ((not (has p.0 rest) && are_sound rest) && (not (has p.0 done) && apart done rest)) (done ++ p ∷ rest)
+        → (when a done >>= λ d. add d p >>= λ more. accepted ns more rest)
+        ≡ when ((a && not (has p.0 rest) && are_sound rest) && (not (has p.0 done) && apart done rest)) (done ++ p ∷ rest)
+    known-first false h = refl
+    known-first true h = h
+
+or-false : (b : Bool) → (b || false) ≡ b
+or-false true = refl
+or-false false = refl
+
+or-left : (a b c d e f g : Bool) → (a || (b || (c || (d || (e || (f || g)))))) ≡ (a || b || c || d || e || f || g)
+or-left true b c d e f g = refl
+or-left false true c d e f g = refl
+or-left false false true d e f g = refl
+or-left false false false true e f g = refl
+or-left false false false false true f g = refl
+or-left false false false false false true g = refl
+or-left false false false false false false g = refl
+
+names-are : (n : Text) → is_among names n ≡ is_name n
+names-are n =
+    rw (
+      or-false,
+      swap-text (codes "grid") n,
+      swap-text (codes "make") n,
+      swap-text (codes "weights") n,
+      swap-text (codes "steps") n,
+      swap-text (codes "div") n,
+      swap-text (codes "edge") n,
+      swap-text (codes "around") n,
+    )
+    (or-left (bytes_eq n (codes "grid")) (bytes_eq n (codes "make")) (bytes_eq n (codes "weights")) (bytes_eq n (codes "steps")) (bytes_eq n (codes "div"))
+    (bytes_eq n (codes "edge")) (bytes_eq n (codes "around")))
+
+-- the rows of options give their values
+row-value : (options : List Pair) (n : Text) → first_of n (rows options) ≡ value n options
+row-value [] n = refl
+row-value (p ∷ rest) n = by (bytes_eq p.0 n) (row-value rest n)
+  where
+    by : (b : Bool) → first_of n (rows rest) ≡ value n rest
+        → option_and_then (λ (r : Row). slice_get r.values 0) (cond b (Some (row p)) (find (λ r. bytes_eq r.id n) (rows rest)))
+        ≡ option_map (λ (q : Pair). q.1) (cond b (Some p) (find (λ q. bytes_eq q.0 n) rest))
+    by true h = refl
+    by false h = h
+
+-- ---- after the walk
+
+no-defaults : (rs : List Row) (ns : List Text) → fold with_default rs (map known ns) ≡ rs
+no-defaults rs [] = refl
+no-defaults rs (n ∷ ns) = by (has_row n rs) (no-defaults rs ns)
+  where
+    by : (b : Bool) → fold with_default rs (map known ns) ≡ rs → fold with_default (cond b rs rs) (map known ns) ≡ rs
+    by true h = h
+    by false h = h
+
+no-faults : (rs : List Row) (ns : List Text) → defaults_fault rs (map known ns) ≡ []
+unfolding defaults_fault
+no-faults rs [] = refl
+no-faults rs (n ∷ ns) = by (has_row n rs) (no-faults rs ns)
+  where
+    by : (b : Bool) → defaults_fault rs (map known ns) ≡ []
+        → or_else (cond (b || true) [] (given_default_fault (known n) [])) (defaults_fault (cond b rs rs) (map known ns)) ≡ []
+    by true h = h
+    by false h = h
+
+none-required : (rs : List Row) (ns : List Text) → list_any (λ a. a.required && not (is_given a.id rs)) (map known ns) ≡ false
+none-required rs [] = refl
+none-required rs (n ∷ ns) = none-required rs ns
+
+or-else-nil : (ks : Kinds) → or_else ks [] ≡ ks
+or-else-nil [] = refl
+or-else-nil (k ∷ ks) = refl
+
+level-is : (ns words : List Text) → level_fault (shape ns) [] nothing_held words false [] ≡ faults ns (between [] None) words
+level-is ns words =
+    let end = end_of ns (between [] None) words in
+    let rs = settled_rows (map known ns) end.pending end.rows in
+    rw (no-faults rs ns, none-required (finished (map known ns) end) ns, or-else-nil) refl
+
+faults-are : (words : List Text) → fault_of stencil_app words ≡ faults names (between [] None) (drop 1 words)
+faults-are words = by (walk (map known names) [] nothing_held (drop 1 words)).stopped ∙ level-is names (drop 1 words)
+  where
+    by : (stop : Option (Text × List Text))
+        → level_fault (shape names) [] nothing_held (drop 1 words) (is_some (entered (built stencil_app) stop)) (entered_fault (built stencil_app) stop)
+        ≡ level_fault (shape names) [] nothing_held (drop 1 words) false []
+    by None = refl
+    by (Some p) = refl
+
+rows-are : (words : List Text) → matches_of stencil_app words
+    ≡ settled_rows (map known names) (end_of names (between [] None) (drop 1 words)).pending (end_of names (between [] None) (drop 1 words)).rows
+rows-are words = no-defaults _ names
+
+-- what `clap` answers to words of the two forms
+pub record Takes (words : List Text) (options : List Pair) : Type 0 where
+  pub faultless : fault_of stencil_app words ≡ []
+  pub sound : are_sound options ≡ true
+  pub values : (n : Text) → first_of n (matches_of stencil_app words) ≡ value n options
+
+pub record Refuses (words : List Text) (options : List Pair) : Type 0 where
+  pub faulty : fault_of stencil_app words ≡ [] → ⊥
+  pub unsound : are_sound options ≡ false
+
+pub reads : (words : List Text) (options : List Pair) → options_of (drop 1 words) ≡ Some options → Takes words options ⊎ Refuses words options
+reads words options e =
+    let all : when (is_nil (faults names (between [] None) (drop 1 words))) (matches_of stencil_app words) ≡ option_map rows (when (are_sound options) options) =
+    ap (when (is_nil (faults names (between [] None) (drop 1 words)))) (rows-are words)
+    ∙ outcome-is names [] None (drop 1 words) options refl refl e
+    ∙ ap (option_map rows) (accepted-is names names-are [] options ∙ (rw (apart-none options) (by (are_sound options)))) in
+    from (fault_of stencil_app words) refl (are_sound options) refl (ap (λ ks. when (is_nil ks) (matches_of stencil_app words)) (faults-are words) ∙ all)
+  where
+    by : (b : Bool) → when (b && true) options ≡ when b options
+    by true = refl
+    by false = refl
+
+    from : (ks : Kinds) → fault_of stencil_app words ≡ ks → (b : Bool) → are_sound options ≡ b
+        → when (is_nil ks) (matches_of stencil_app words) ≡ option_map rows (when b options) → Takes words options ⊎ Refuses words options
+    from [] f true t e =
+        let same : matches_of stencil_app words ≡ rows options = cc in
+        inl record { faultless = f; sound = t; values = λ n. ap (first_of n) same ∙ row-value options n }
+    from [] f false t e = cc e
+    from (k ∷ ks) f true t e = cc e
+    from (k ∷ ks) f false t e = inr record { faulty = λ none. cc; unsound = t }
