@@ -1,3 +1,4 @@
 pub mod OptionFacts
 pub mod WordFacts
 pub mod WalkFacts
+pub mod CommandFacts

@@ -1,6 +1,6 @@
 -- What `clap` makes of words that have the two forms of an option.
-use Rattle.std.proofs.Common.{◌≡◌, ◌∙◌, ℕ, Bool, true, false, not, ◌&&◌, ◌||◌, cond, true≢false, List, [], ◌∷◌, ◌++◌, map, length, Option, Some, None, refl, sym, ap, ap₂, codes, ◌<◌, ◌≤◌, ◌+◌, ◌⊎◌, inl, inr, suc, append-nil, append_assoc, arith}
-use Rattle.std.specs.Prelude.{bytes_eq, find, is_some, option_and_then, drop, option_map, ◌==◌, nat_lt, slice_get, if◌then◌else◌}
+use Rattle.std.proofs.Common.{◌≡◌, ◌∙◌, ℕ, Bool, true, false, not, ◌&&◌, ◌||◌, cond, true≢false, List, [], ◌∷◌, ◌++◌, map, length, Option, Some, None, refl, sym, ap, ap₂, codes, ◌≤◌, ◌+◌, ◌⊎◌, inl, inr, suc, append-nil, append_assoc, arith}
+use Rattle.std.specs.Prelude.{bytes_eq, find, is_some, option_and_then, drop, option_map, ◌==◌, nat_lt, slice_get}
 use Rattle.std.specs.List.{after_first, before_first, fold, list_any, list_all, position_or_len}
 use Rattle.std.proofs.lemmas.Bool.Decides.{Decides-like, nat_tests, same_from_decides}
 use Rattle.std.proofs.lemmas.List.Folds.{list_any-append}
@@ -8,12 +8,12 @@ use Rattle.std.proofs.lemmas.List.{map-append, take_all}
 use Rattle.std.proofs.lemmas.Slice.Eq.{bytes_eq-Decides}
 use Rattle.stencil_words.specs.Options.{or_else as or_other, ◌>>=◌, Pair, Text, are_sound, before, divided, has, has_equals, is_empty, is_equals, is_name, is_value, joined, name_part, options_of, paired, undashed, value, when}
 use Rattle.stencil_words.specs.Command.{names, option_rule, stencil_app}
-use Rattle.clap.specs.Faults.{check_fault, default_fault, defaults_fault, entered_fault, fault_of, given_default_fault, level_fault, is_simple_and_free, settle_fault, turn_fault, use_fault, walk_fault}
+use Rattle.clap.specs.Faults.{defaults_fault, entered_fault, fault_of, given_default_fault, level_fault, is_simple_and_free, settle_fault, turn_fault, use_fault, walk_fault}
 use Rattle.clap.specs.Kinds.{Kinds, or_else}
 use Rattle.clap.specs.Lexer.{has_byte, long_of, short_of}
-use Rattle.clap.specs.Simple.{Shape, built, entered, filled, is_simple, matches_of, new_shape}
+use Rattle.clap.specs.Simple.{Shape, built, entered, filled, matches_of, new_shape}
 use Rattle.clap.specs.Takes.{is_given}
-use Rattle.clap.specs.Walk.{finished, first_of, nothing_held, walk, with_default, Held, Row, Rule, Walk, arg_by_id, arg_by_index, arg_by_long, at_row, has_row, idle, more_values, option, reading_by, settled_rows, used, walked, with_values, without}
+use Rattle.clap.specs.Walk.{finished, first_of, nothing_held, walk, with_default, Held, Row, Rule, Walk, arg_by_id, arg_by_index, arg_by_long, at_row, has_row, idle, more_values, option, reading_by, settled_rows, used, walked, with_values}
 use Rattle.clap.specs.declared.parser.matches.ValueSource.TheVariants.{CommandLine}
 
 -- the argument of a name, once the command is built
@@ -608,11 +608,11 @@ names-are n =
     (bytes_eq n (codes "edge")) (bytes_eq n (codes "around")))
 
 -- the rows of options give their values
-row-value : (options : List Pair) (n : Text) → first_of n (rows options) ≡ value n options
+row-value : (options : List Pair) (n : Text) → first_of n (rows options) ≡ value options n
 row-value [] n = refl
 row-value (p ∷ rest) n = by (bytes_eq p.0 n) (row-value rest n)
   where
-    by : (b : Bool) → first_of n (rows rest) ≡ value n rest
+    by : (b : Bool) → first_of n (rows rest) ≡ value rest n
         → option_and_then (λ (r : Row). slice_get r.values 0) (cond b (Some (row p)) (find (λ r. bytes_eq r.id n) (rows rest)))
         ≡ option_map (λ (q : Pair). q.1) (cond b (Some p) (find (λ q. bytes_eq q.0 n) rest))
     by true h = refl
@@ -669,7 +669,7 @@ rows-are words = no-defaults _ names
 pub record Takes (words : List Text) (options : List Pair) : Type 0 where
   pub faultless : fault_of stencil_app words ≡ []
   pub sound : are_sound options ≡ true
-  pub values : (n : Text) → first_of n (matches_of stencil_app words) ≡ value n options
+  pub values : (n : Text) → first_of n (matches_of stencil_app words) ≡ value options n
 
 pub record Refuses (words : List Text) (options : List Pair) : Type 0 where
   pub faulty : fault_of stencil_app words ≡ [] → ⊥
