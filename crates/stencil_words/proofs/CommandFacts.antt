@@ -2,7 +2,7 @@
 use Rattle.std.proofs.Common.{◌≡◌, ◌∙◌, true, false, List, [], ◌∷◌, Some, ap, inl, inr, drop, ⊎_elim}
 use Rattle.stencil_words.specs.Command.{stencil_app}
 use Rattle.stencil_words.specs.Options.{Pair, Text, are_sound, options_of, value}
-use Rattle.stencil_words.proofs.WalkFacts.{reads}
+use Rattle.stencil_words.proofs.OutcomeFacts.{reads}
 use Rattle.clap.proofs.WalkLemmas.{first_value-rows}
 use Rattle.clap.specs.Faults.{fault_of}
 use Rattle.clap.specs.Kinds.{HasKind, IsAmong, Kinds}
