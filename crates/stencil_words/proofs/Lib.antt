@@ -1,2 +1,7 @@
 pub mod OptionFacts
 pub mod WordFacts
+pub mod RowFacts
+pub mod FormFacts
+pub mod WalkFacts
+pub mod OutcomeFacts
+pub mod CommandFacts

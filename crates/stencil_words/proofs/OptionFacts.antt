@@ -1,13 +1,12 @@
 -- What the parts of a word say of it.
-use Rattle.std.proofs.Common.{◌≡◌, ◌≢◌, ℕ, ◌<◌, Bool, true, false, List, [], ◌∷◌, ◌++◌, length, Option, Some, None, refl, sym, ap, ◌∙◌, arith, append_assoc}
-use Rattle.std.specs.Prelude.{MatchOption, option_copied, option_map, ◌==◌, not, ◌&&◌}
+use Rattle.std.proofs.Common.{◌≡◌, ◌≢◌, ℕ, ◌<◌, Bool, true, false, List, [], ◌∷◌, length, Option, Some, None, refl, sym, ap, arith}
+use Rattle.std.specs.Prelude.{MatchOption, is_some, option_copied, ◌==◌, not, ◌&&◌}
 use Rattle.std.specs.Prelude.{String}
 use Rattle.std.specs.declared.alloc.Global.{Global}
 use Rattle.std.specs.Borrow.{Bor}
-use Rattle.std.specs.List.{after_first, before_first, position_or_len}
-use Rattle.std.proofs.lemmas.List.{append-nil}
+use Rattle.std.specs.List.{after_first, position_or_len}
 use Rattle.std.proofs.lemmas.Bool.Decides.{nat_tests}
-use Rattle.stencil_words.specs.Options.{Pair, Text, before, divided, has_equals, is_empty, is_equals, joined, options_of, paired, texts, undashed, value, when}
+use Rattle.stencil_words.specs.Options.{Pair, Text, before, divided, has_equals, is_empty, is_equals, joined, options_of, or_else, paired, texts, undashed, when}
 
 -- a word with and without a `-` at its front
 pub undashed-is : (word : Text) (r : Option (Bor Text)) → MatchOption r ((rest : Text) → word ≢ 45 ∷ rest) (λ x. word ≡ 45 ∷ x.now)
@@ -26,59 +25,66 @@ undashed-is (b ∷ rest) (Some x) h =
     rw (t, more) refl
 
 -- a text without a `=`, and one with it
-pub divided-none : (text : Text) → position_or_len is_equals text ≡ length text → divided text ≡ None
-divided-none text h = let t : has_equals text ≡ false = grind (arith, nat_tests) in rw t refl
+divided-is : (text : Text) (b c : Bool) → has_equals text ≡ b → is_empty (after_first is_equals text) ≡ c → is_some (divided text) ≡ (b && not c)
+divided-is text true true e f = rw (e, f) refl
+divided-is text true false e f = rw (e, f) refl
+divided-is text false c e f = rw e refl
 
-pub divided-empty : (text value : Text) → value ≡ after_first is_equals text → length value ≡ 0 → divided text ≡ None
-divided-empty text value e h =
-    let t : is_empty (after_first is_equals text) ≡ true = (rw (← e) (grind (arith, nat_tests))) in
-    by (has_equals text) t
-  where
-    by : (b : Bool) → is_empty (after_first is_equals text) ≡ true
-        → when {A = Pair} (b && not (is_empty (after_first is_equals text))) (before_first is_equals text, after_first is_equals text) ≡ None
-    by true t = rw t refl
-    by false t = refl
+pub divided-none : (text : Text) → position_or_len is_equals text ≡ length text → false ≡ is_some (divided text)
+divided-none text h =
+    let t : has_equals text ≡ false = grind (arith, nat_tests) in
+    sym (divided-is text false (is_empty (after_first is_equals text)) t refl)
 
-pub divided-some : (text name value : Text) → position_or_len is_equals text < length text → name ≡ before_first is_equals text
-    → value ≡ after_first is_equals text → 0 < length value → divided text ≡ Some (name, value)
-divided-some text name value h a b s =
+pub divided-some : (text value : Text) → position_or_len is_equals text < length text → value ≡ after_first is_equals text
+    → not (length value == 0) ≡ is_some (divided text)
+divided-some text value h a =
     let t : has_equals text ≡ true = grind (arith, nat_tests) in
-    let u : is_empty value ≡ false = grind (arith, nat_tests) in
-    rw (t, ← b, u, ← a) refl
+    sym (divided-is text true (length value == 0) t (rw (← a) refl))
 
--- the options of words, by the option at their front
-pub first-joined : (word : Text) (after : List Text) (p : Pair) → joined word ≡ Some p → options_of (word ∷ after) ≡ before p (options_of after)
+-- whether words are options, by the option at their front
+some-before : (p : Pair) (o : Option (List Pair)) → is_some (before p o) ≡ is_some o
+some-before p None = refl
+some-before p (Some rest) = refl
+
+pub behind-joined : (word : Text) (after : List Text) → is_some (joined word) ≡ true → is_some (options_of (word ∷ after)) ≡ is_some (options_of after)
 unfolding options_of
-first-joined word [] p e = rw e refl
-first-joined word (next ∷ rest) p e = rw e refl
+behind-joined word [] e = by (joined word) e
+  where
+    by : (o : Option Pair) → is_some o ≡ true → is_some (or_else o (Some []) None) ≡ true
+    by None e = cc e
+    by (Some p) e = refl
+behind-joined word (next ∷ rest) e = by (joined word) e
+  where
+    by : (o : Option Pair) → is_some o ≡ true
+        → is_some (or_else o (options_of (next ∷ rest)) (or_else (paired word next) (options_of rest) None)) ≡ is_some (options_of (next ∷ rest))
+    by None e = cc e
+    by (Some p) e = some-before p (options_of (next ∷ rest))
 
-pub first-alone : (word : Text) → joined word ≡ None → options_of (word ∷ []) ≡ None
+pub behind-alone : (word : Text) → is_some (joined word) ≡ false → is_some (options_of (word ∷ [])) ≡ false
 unfolding options_of
-first-alone word e = rw e refl
+behind-alone word e = by (joined word) e
+  where
+    by : (o : Option Pair) → is_some o ≡ false → is_some (or_else o (Some []) None) ≡ false
+    by None e = refl
+    by (Some p) e = cc e
 
-pub first-paired : (word next : Text) (rest : List Text) (p : Pair) → joined word ≡ None → paired word next ≡ Some p
-    → options_of (word ∷ next ∷ rest) ≡ before p (options_of rest)
+pub behind-other : (word next : Text) (rest : List Text) → is_some (joined word) ≡ false
+    → is_some (options_of (word ∷ next ∷ rest)) ≡ (is_some (paired word next) && is_some (options_of rest))
 unfolding options_of
-first-paired word next rest p e f = rw (e, f) refl
-
-pub first-none : (word next : Text) (rest : List Text) → joined word ≡ None → paired word next ≡ None
-    → options_of (word ∷ next ∷ rest) ≡ None
-unfolding options_of
-first-none word next rest e f = rw (e, f) refl
-
--- one more option
-pub options-more : (done : List Pair) (p : Pair) (now more : Option (List Pair)) → now ≡ before p more
-    → option_map (λ rest. (done ++ p ∷ []) ++ rest) more ≡ option_map (λ rest. done ++ rest) now
-options-more done p now None e = rw e refl
-options-more done p now (Some rest) e = rw e (ap Some (append_assoc done (p ∷ []) rest))
+behind-other word next rest e = by (joined word) e (paired word next)
+  where
+    by : (o : Option Pair) → is_some o ≡ false → (o2 : Option Pair)
+        → is_some (or_else o (options_of (next ∷ rest)) (or_else o2 (options_of rest) None)) ≡ (is_some o2 && is_some (options_of rest))
+    by None e None = refl
+    by None e (Some p) = some-before p (options_of rest)
+    by (Some p) e o2 = cc e
 
 pub texts-none : (words : List (String Global)) → length words ≡ 0 → texts words ≡ []
 texts-none [] e = refl
 texts-none (w ∷ ws) e = absurd (omega arith)
 
 -- no word is left
-pub all-done : (done : List Pair) (rest : List (String Global)) (all : Option (List Pair)) → length rest ≡ 0
-    → option_map (λ more. done ++ more) (options_of (texts rest)) ≡ all → Some done ≡ all
+pub all-done : (rest : List (String Global)) (all : Bool) → length rest ≡ 0 → is_some (options_of (texts rest)) ≡ all → true ≡ all
 unfolding options_of
-all-done done [] all e h = ap Some (sym (append-nil done)) ∙ h
-all-done done (w ∷ ws) all e h = absurd (omega arith)
+all-done [] all e h = h
+all-done (w ∷ ws) all e h = absurd (omega arith)

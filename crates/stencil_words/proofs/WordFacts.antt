@@ -1,6 +1,6 @@
 -- What a reading says, and the limits that it keeps.
 use Rattle.std.proofs.Common.{◌≡◌, ℕ, ◌*◌, ◌≤◌, Bool, true, false, ℤ, pos, unsigned_abs, List, [], ◌∷◌, length, Option, Some, None, Ok, Err, refl, arith}
-use Rattle.std.specs.Prelude.{IfSome, String, bytes_eq, codes, string_bytes, option_and_then, nat_le, not, ◌==◌, if◌then◌else◌}
+use Rattle.std.specs.Prelude.{IfSome, String, bytes_eq, codes, drop, is_some, string_bytes, option_and_then, nat_le, not, ◌==◌, if◌then◌else◌}
 use Rattle.std.specs.declared.alloc.Global.{Global}
 use Rattle.std.specs.List.{slice_split}
 use Rattle.std.proofs.lemmas.Bool.Decides.{nat_tests}
@@ -12,7 +12,7 @@ use Rattle.stencil_words.specs.declared.words.Size.{Size}
 use Rattle.stencil_words.specs.declared.words.Source.{Source}
 use Rattle.stencil_words.specs.Limits.{IsRead, IsSize, IsSource}
 use Rattle.stencil_words.specs.Options.{◌>>=◌, Pair, Text, are_sound, options_of, texts, value, when}
-use Rattle.stencil_words.specs.Words.{around_of, grid_source, is_between, made_source, number_in, one_source, or_default, reading_of, reading_of_options, signed_in, size_in, size_of, size_of_parts, source_of, stencil_reading, value_of_result, with_source}
+use Rattle.stencil_words.specs.Words.{Values, around_of, grid_source, is_between, made_source, number_in, one_source, or_default, reading_of, reading_of_options, reading_of_values, signed_in, size_in, size_of, size_of_parts, source_of, stencil_reading, value_of_result, with_source}
 
 -- words of another command, of no options, and of options
 pub no-words : (words : List (String Global)) → length words ≡ 0 → None ≡ stencil_reading (texts words)
@@ -26,19 +26,50 @@ unfolding stencil_reading
 other-words words rest command e t = rw (e, t) refl
 
 pub bad-words : (words rest : List (String Global)) (command : String Global) → words ≡ command ∷ rest
-    → options_of (texts rest) ≡ None → None ≡ stencil_reading (texts words)
+    → false ≡ is_some (options_of (texts rest)) → None ≡ stencil_reading (texts words)
 unfolding stencil_reading reading_of
-bad-words words rest command e o = rw (e, o) (by (bytes_eq (string_bytes command) (codes "stencil")))
+bad-words words rest command e h = rw e (by (bytes_eq (string_bytes command) (codes "stencil")) (options_of (texts rest)) h)
   where
-    by : (b : Bool) → None ≡ (if b then option_and_then reading_of_options None else None)
-    by true = refl
-    by false = refl
+    by : (b : Bool) (o : Option (List Pair)) → false ≡ is_some o → None ≡ (if b then option_and_then reading_of_options o else None)
+    by true None h = refl
+    by true (Some options) h = cc h
+    by false o h = refl
 
-pub good-words : (words rest : List (String Global)) (command : String Global) (options : List Pair) → words ≡ command ∷ rest
-    → bytes_eq (string_bytes command) (codes "stencil") ≡ true → options_of (texts rest) ≡ Some options
-    → reading_of_options options ≡ stencil_reading (texts words)
+unsound-options : (options : List Pair) → are_sound options ≡ false → None ≡ reading_of_options options
+unfolding reading_of_options
+unsound-options options e = rw e refl
+
+pub unsound-words : (words rest : List (String Global)) (command : String Global) → words ≡ command ∷ rest
+    → ((options : List Pair) → options_of (drop 1 (texts words)) ≡ Some options → are_sound options ≡ false) → None ≡ stencil_reading (texts words)
 unfolding stencil_reading reading_of
-good-words words rest command options e t o = rw (e, t, o) refl
+unsound-words words rest command e h = rw e (by (bytes_eq (string_bytes command) (codes "stencil")) (options_of (texts rest)) refl (rw e at h))
+  where
+    by : (b : Bool) (o : Option (List Pair)) → options_of (texts rest) ≡ o
+        → ((options : List Pair) → options_of (texts rest) ≡ Some options → are_sound options ≡ false)
+        → None ≡ (if b then option_and_then reading_of_options o else None)
+    by true None f h = refl
+    by true (Some options) f h = unsound-options options (h options f)
+    by false o f h = refl
+
+sound-options : (options : List Pair) (given : Values) → are_sound options ≡ true → ((name : Text) → given name ≡ value options name)
+    → reading_of_values given ≡ reading_of_options options
+unfolding reading_of_options
+sound-options options given e h = rw e (λ i. reading_of_values (λ name. h name i))
+
+pub good-words : (words rest : List (String Global)) (command : String Global) (given : Values) → words ≡ command ∷ rest
+    → bytes_eq (string_bytes command) (codes "stencil") ≡ true → true ≡ is_some (options_of (texts rest))
+    → ((options : List Pair) → options_of (drop 1 (texts words)) ≡ Some options
+    → (are_sound options ≡ true) × ((name : Text) → given name ≡ value options name))
+    → reading_of_values given ≡ stencil_reading (texts words)
+unfolding stencil_reading reading_of
+good-words words rest command given e t some h = rw (e, t) (by (options_of (texts rest)) refl some (rw e at h))
+  where
+    by : (o : Option (List Pair)) → options_of (texts rest) ≡ o → true ≡ is_some o
+        → ((options : List Pair) → options_of (texts rest) ≡ Some options
+        → (are_sound options ≡ true) × ((name : Text) → given name ≡ value options name))
+        → reading_of_values given ≡ option_and_then reading_of_options o
+    by None f some h = cc some
+    by (Some options) f some h = let found = h options f in sound-options options given found.0 found.1
 
 -- a step of a reading
 bind-some : {A B : Type 0} (o : Option A) (f : A → Option B) (P : B → Type 0) → ((x : A) → o ≡ Some x → IfSome (f x) P) → IfSome (o >>= f) P
@@ -126,27 +157,26 @@ one-limits None (Some make) weights = made-limits make weights
 one-limits None None weights = tt
 one-limits (Some grid) (Some make) weights = tt
 
-with-limits : (options : List Pair) (source : Source) → IsSource source → IfSome (with_source options source) IsRead
+with-limits : (given : Values) (source : Source) → IsSource source → IfSome (with_source given source) IsRead
 unfolding with_source
-with-limits options source h =
-    bind-some (or_default (number_in 0 10000) 1 (value (codes "steps") options)) _ IsRead (λ steps es.
-    bind-some (or_default (number_in 1 1000000) 1 (value (codes "div") options)) _ IsRead (λ div ed.
-    bind-some (or_default (signed_in 1000000000000) (pos 0) (value (codes "edge") options)) _ IsRead (λ edge ee.
-    bind-some (or_default around_of around.Fixed (value (codes "around") options)) _ IsRead (λ side ea.
+with-limits given source h =
+    bind-some (or_default (number_in 0 10000) 1 (given (codes "steps"))) _ IsRead (λ steps es.
+    bind-some (or_default (number_in 1 1000000) 1 (given (codes "div"))) _ IsRead (λ div ed.
+    bind-some (or_default (signed_in 1000000000000) (pos 0) (given (codes "edge"))) _ IsRead (λ edge ee.
+    bind-some (or_default around_of around.Fixed (given (codes "around"))) _ IsRead (λ side ea.
     record {
       source_limits = h;
-      steps_limit = (default-range 0 10000 1 steps (value (codes "steps") options) (omega arith) (omega arith) es).1;
-      div_limits = default-range 1 1000000 1 div (value (codes "div") options) (omega arith) (omega arith) ed;
-      edge_limits = edge-limit edge (value (codes "edge") options) ee;
+      steps_limit = (default-range 0 10000 1 steps (given (codes "steps")) (omega arith) (omega arith) es).1;
+      div_limits = default-range 1 1000000 1 div (given (codes "div")) (omega arith) (omega arith) ed;
+      edge_limits = edge-limit edge (given (codes "edge")) ee;
     }))))
 
 -- the limits of a reading
-pub reading-limits : (options : List Pair) → IfSome (reading_of_options options) IsRead
-unfolding reading_of_options source_of
-reading-limits options =
-    bind-some (when (are_sound options) options) _ IsRead (λ sound e.
-    bind-some (source_of sound) _ IsRead (λ source f.
-    with-limits sound source (at-some (source_of sound) IsSource source (one-limits (value (codes "grid") sound) (value (codes "make") sound) (value (codes "weights") sound)) f)))
+pub values-limits : (given : Values) → IfSome (reading_of_values given) IsRead
+unfolding reading_of_values source_of
+values-limits given =
+    bind-some (source_of given) _ IsRead (λ source e.
+    with-limits given source (at-some (source_of given) IsSource source (one-limits (given (codes "grid")) (given (codes "make")) (given (codes "weights"))) e))
 
 pub is-false : (b : Bool) → true ≡ not b → b ≡ false
 is-false true e = cc e

@@ -1,9 +1,8 @@
 -- The options in the words of a command line.
-use Rattle.std.specs.Prelude.{◌≡◌, ℕ, ◌==◌, Bool, true, false, ◌&&◌, ◌||◌, not, nat_lt, ◌≤◌, bytes_eq, codes, if◌then◌else◌, List, [], ◌∷◌, length, map, find, Option, Some, None, option_map, option_and_then, String, string_bytes}
+use Rattle.std.specs.Prelude.{◌≡◌, ℕ, ◌==◌, Bool, true, false, ◌&&◌, ◌||◌, not, nat_lt, ◌≤◌, bytes_eq, codes, if◌then◌else◌, List, [], ◌∷◌, length, map, find, Option, Some, None, is_some, option_map, option_and_then, String, string_bytes}
 use Rattle.std.specs.Borrow.{Bor}
 use Rattle.std.specs.declared.alloc.Global.{Global}
 use Rattle.std.specs.List.{after_first, before_first, list_any, position_or_len}
-use Rattle.stencil_words.specs.declared.options.Given.{Given}
 
 -- the second step, where the first gives a value
 infixl 10 ◌>>=◌
@@ -82,19 +81,15 @@ options_of (word ∷ []) = or_else (joined word) (Some []) None
 options_of (word ∷ next ∷ rest) =
     or_else (joined word) (options_of (next ∷ rest)) (or_else (paired word next) (options_of rest) None)
 
--- an option without where it lies in memory
-abbrev pub pair_of : Given → Pair
-pair_of g = (g.name.now, g.value.now)
-
 -- the bytes of each word
 abbrev pub texts : List (String Global) → List Text
 texts words = map string_bytes words
 
--- the option at the front of words and the words behind it are those of the definition
-abbrev pub FirstOption : Text → List (String Global) → Option (Given × Bor (List (String Global))) → Type 0
-FirstOption word after None = options_of (word ∷ texts after) ≡ None
-FirstOption word after (Some p) =
-    (length p.1.now ≤ length after) × (options_of (word ∷ texts after) ≡ before (pair_of p.0) (options_of (texts p.1.now)))
+-- the words behind the option at the front, if one stands there: the words are options where these are
+abbrev pub IsBehindFirst : Text → List (String Global) → Option (Bor (List (String Global))) → Type 0
+IsBehindFirst word after None = is_some (options_of (word ∷ texts after)) ≡ false
+IsBehindFirst word after (Some rest) =
+    (length rest.now ≤ length after) × (is_some (options_of (word ∷ texts after)) ≡ is_some (options_of (texts rest.now)))
 
 -- the names of options
 abbrev pub is_name : Text → Bool
@@ -112,10 +107,6 @@ abbrev pub are_sound : List Pair → Bool
 are_sound [] = true
 are_sound (p ∷ rest) = is_name p.0 && not (has p.0 rest) && are_sound rest
 
--- the value of the option of this name
-abbrev pub value : Text → List Pair → Option Text
-value name options = option_map (λ p. p.1) (find (λ p. bytes_eq p.0 name) options)
-
--- the options without where they lie
-abbrev pub pairs_of : List Given → List Pair
-pairs_of options = map pair_of options
+-- the value of the option of a name, where it is given
+abbrev pub value : List Pair → Text → Option Text
+value options name = option_map (λ p. p.1) (find (λ p. bytes_eq p.0 name) options)

@@ -75,26 +75,34 @@ one_source (Some grid) None weights = grid_source grid weights
 one_source None (Some make) weights = made_source make weights
 one_source _ _ _ = None
 
+-- the values of options by their names
+abbrev pub Values : Type 0
+Values = Text → Option Text
+
 -- where the grid comes from
-unfoldable pub source_of : List Pair → Option Source
-source_of options =
-    one_source (value (codes "grid") options) (value (codes "make") options) (value (codes "weights") options)
+unfoldable pub source_of : Values → Option Source
+source_of given = one_source (given (codes "grid")) (given (codes "make")) (given (codes "weights"))
 
 -- what the options say beside that
-unfoldable pub with_source : List Pair → Source → Option StencilWords
-with_source options source = do
-  steps ← or_default (number_in 0 10000) 1 (value (codes "steps") options)
-  div ← or_default (number_in 1 1000000) 1 (value (codes "div") options)
-  edge ← or_default (signed_in 1000000000000) (pos 0) (value (codes "edge") options)
-  around ← or_default around_of around.Fixed (value (codes "around") options)
+unfoldable pub with_source : Values → Source → Option StencilWords
+with_source given source = do
+  steps ← or_default (number_in 0 10000) 1 (given (codes "steps"))
+  div ← or_default (number_in 1 1000000) 1 (given (codes "div"))
+  edge ← or_default (signed_in 1000000000000) (pos 0) (given (codes "edge"))
+  around ← or_default around_of around.Fixed (given (codes "around"))
   Some record { source = source; steps = steps; div = div; edge = edge; around = around }
+
+-- the reading of values
+unfoldable pub reading_of_values : Values → Option StencilWords
+reading_of_values given = do
+  source ← source_of given
+  with_source given source
 
 -- the reading of options, where each has a known name and no two have one
 unfoldable pub reading_of_options : List Pair → Option StencilWords
 reading_of_options options = do
   sound ← when (are_sound options) options
-  source ← source_of sound
-  with_source sound source
+  reading_of_values (value sound)
 
 -- the reading of the words behind the command
 unfoldable pub reading_of : List Text → Option StencilWords

@@ -1,6 +1,7 @@
 //! The words of the command `stencil`, read into typed values.
 #![tactic(auto)]
 
+mod command;
 mod file_name;
 mod options;
 mod read;

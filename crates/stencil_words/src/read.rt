@@ -3,11 +3,14 @@
 ghost use Rattle.std.specs.Prelude.{◌≡◌, ◌==◌, ◌≤◌, IfOk, IfSome, codes, map, option_copied, pos};
 ghost use Rattle.std.specs.List.{slice_split};
 ghost use Rattle.stencil_words.specs.Limits.{IsRead};
-ghost use Rattle.stencil_words.specs.Options.{pairs_of, texts, value};
-ghost use Rattle.stencil_words.specs.Words.{around_of, grid_source, made_source, number_in, or_default, reading_of_options, signed_in, size_in, size_of, source_of, stencil_reading, with_source};
+ghost use Rattle.stencil_words.specs.Command.{given_in};
+ghost use Rattle.stencil_words.specs.Options.{texts};
+ghost use Rattle.stencil_words.specs.Words.{around_of, grid_source, made_source, number_in, or_default, reading_of_values, signed_in, size_in, size_of, source_of, stencil_reading, with_source};
 
-use crate::options::{Given, are_sound, options, value};
+use crate::command::matches;
+use crate::options::are_options;
 use crate::{FileName, Size, Source, StencilWords};
+use clap::ArgMatches;
 use std::alloc::{AllocError, Global};
 use stencil_def::Around;
 
@@ -25,10 +28,10 @@ fn number_in(low: u32, high: u32, text: &[u8]) -> Option<u32>
 }
 
 /// The number that the option of this name gives, and the default where there is none.
-fn number_or(options: &[Given<'_>], name: &str, low: u32, high: u32, default: u32) -> Option<u32>
-    ensures { result ≡ or_default (number_in low high) default (value name.now (pairs_of options.now)) }
+fn number_or(matches: &ArgMatches<'_>, name: &str, low: u32, high: u32, default: u32) -> Option<u32>
+    ensures { result ≡ or_default (number_in low high) default (given_in matches.now name.now) }
 {
-    match value(options, name) {
+    match matches.get_str(name) {
         Some(text) => number_in(low, high, text.as_bytes()),
         None => Some(default),
     }
@@ -36,10 +39,10 @@ fn number_or(options: &[Given<'_>], name: &str, low: u32, high: u32, default: u3
 
 /// The value outside the grid: that of `--edge`, and else 0.
 #[tactic(auto, unfolding(crate::specs::Words::signed_in))]
-fn edge_of(options: &[Given<'_>]) -> Option<i64>
-    ensures { result ≡ or_default (signed_in 1000000000000) (pos 0) (value (codes "edge") (pairs_of options.now)) }
+fn edge_of(matches: &ArgMatches<'_>) -> Option<i64>
+    ensures { result ≡ or_default (signed_in 1000000000000) (pos 0) (given_in matches.now (codes "edge")) }
 {
-    match value(options, "edge") {
+    match matches.get_str("edge") {
         Some(text) => grid_text::signed_within(text.as_bytes(), 1_000_000_000_000).ok(),
         None => Some(0),
     }
@@ -59,10 +62,10 @@ fn around_of(text: &str) -> Option<Around>
 }
 
 /// What lies outside the grid: what `--around` names, and else the edge.
-fn around_or(options: &[Given<'_>]) -> Option<Around>
-    ensures { result ≡ or_default around_of Around.Fixed (value (codes "around") (pairs_of options.now)) }
+fn around_or(matches: &ArgMatches<'_>) -> Option<Around>
+    ensures { result ≡ or_default around_of Around.Fixed (given_in matches.now (codes "around")) }
 {
-    match value(options, "around") {
+    match matches.get_str("around") {
         Some(text) => around_of(text),
         None => Some(Around::Fixed),
     }
@@ -137,11 +140,11 @@ fn made(alloc: Global, make: &str, weights: Option<&str>) -> Result<Option<Sourc
 
 /// Where the grid comes from: exactly one of `--grid` and `--make` is given.
 #[tactic(auto, unfolding(crate::specs::Words::source_of))]
-fn source(alloc: Global, options: &[Given<'_>]) -> Result<Option<Source>, AllocError>
-    ensures { IfOk result (λ source. source ≡ source_of (pairs_of options.now)) }
+fn source(alloc: Global, matches: &ArgMatches<'_>) -> Result<Option<Source>, AllocError>
+    ensures { IfOk result (λ source. source ≡ source_of (given_in matches.now)) }
 {
-    let weights = value(options, "weights");
-    match (value(options, "grid"), value(options, "make")) {
+    let weights = matches.get_str("weights");
+    match (matches.get_str("grid"), matches.get_str("make")) {
         (Some(grid), None) => files(alloc, grid, weights),
         (None, Some(make)) => made(alloc, make, weights),
         _ => Ok(None),
@@ -150,13 +153,13 @@ fn source(alloc: Global, options: &[Given<'_>]) -> Result<Option<Source>, AllocE
 
 /// What the options say beside where the grid comes from.
 #[tactic(auto, unfolding(crate::specs::Words::with_source))]
-fn with_source(options: &[Given<'_>], source: Source) -> Option<StencilWords>
-    ensures { result ≡ with_source (pairs_of options.now) source }
+fn with_source(matches: &ArgMatches<'_>, source: Source) -> Option<StencilWords>
+    ensures { result ≡ with_source (given_in matches.now) source }
 {
-    let steps = number_or(options, "steps", 0, 10_000, 1)?;
-    let div = number_or(options, "div", 1, 1_000_000, 1)?;
-    let edge = edge_of(options)?;
-    let around = around_or(options)?;
+    let steps = number_or(matches, "steps", 0, 10_000, 1)?;
+    let div = number_or(matches, "div", 1, 1_000_000, 1)?;
+    let edge = edge_of(matches)?;
+    let around = around_or(matches)?;
     Some(StencilWords {
         source,
         steps,
@@ -166,18 +169,15 @@ fn with_source(options: &[Given<'_>], source: Source) -> Option<StencilWords>
     })
 }
 
-/// The reading of options.
-#[tactic(auto, unfolding(crate::specs::Words::reading_of_options))]
-fn read_options(alloc: Global, options: &[Given<'_>]) -> Result<Option<StencilWords>, AllocError>
-    ensures { IfOk result (λ reading. reading ≡ reading_of_options (pairs_of options.now)) }
+/// The reading of the values in matches.
+#[tactic(auto, unfolding(crate::specs::Words::reading_of_values))]
+fn read_matches(alloc: Global, matches: &ArgMatches<'_>) -> Result<Option<StencilWords>, AllocError>
+    ensures { IfOk result (λ reading. reading ≡ reading_of_values (given_in matches.now)) }
 {
-    if !are_sound(options) {
-        return Ok(None);
-    }
-    let Some(source) = source(alloc, options)? else {
+    let Some(source) = source(alloc, matches)? else {
         return Ok(None);
     };
-    Ok(with_source(options, source))
+    Ok(with_source(matches, source))
 }
 
 /// The reading of the words of a command line, of which the first is the command; there is none where the command
@@ -200,8 +200,11 @@ pub fn read_words(alloc: Global, words: &[String]) -> Result<Option<StencilWords
     if command.as_str() != "stencil" {
         return Ok(None);
     }
-    let Some(options) = options(alloc, rest)? else {
+    if !are_options(rest) {
+        return Ok(None);
+    }
+    let Some(matches) = matches(alloc, words)? else {
         return Ok(None);
     };
-    read_options(alloc, &options)
+    read_matches(alloc, &matches)
 }
