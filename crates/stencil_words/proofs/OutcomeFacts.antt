@@ -3,8 +3,8 @@ use Rattle.std.proofs.Common.{◌≡◌, ◌∙◌, Bool, true, false, not, ◌&
 use Rattle.std.specs.Prelude.{bytes_eq, is_some, drop, option_map}
 use Rattle.std.specs.List.{fold, list_any, list_all}
 use Rattle.std.proofs.lemmas.List.Folds.{list_any-append}
-use Rattle.stencil_words.specs.Options.{or_else as or_other, ◌>>=◌, Pair, Text, are_sound, before, has, is_name, joined, options_of, paired, value, when}
-use Rattle.stencil_words.specs.Command.{names, stencil_app}
+use Rattle.stencil_words.specs.Options.{or_else as or_other, ◌>>=◌, Pair, Text, are_sound, before, has, is_name, joined, names, options_of, paired, value, when}
+use Rattle.stencil_words.specs.Command.{stencil_app}
 use Rattle.clap.specs.Faults.{defaults_fault, entered_fault, fault_of, given_default_fault, level_fault, walk_fault}
 use Rattle.clap.specs.Kinds.{Kinds, or_else}
 use Rattle.clap.specs.Simple.{built, entered, matches_of}
@@ -201,33 +201,8 @@ accepted-is ns named done (p ∷ rest) =
     known-first false h = refl
     known-first true h = h
 
-or-false : (b : Bool) → (b || false) ≡ b
-or-false true = refl
-or-false false = refl
-
-or-left : (a b c d e f g : Bool) → (a || (b || (c || (d || (e || (f || g)))))) ≡ (a || b || c || d || e || f || g)
-or-left true b c d e f g = refl
-or-left false true c d e f g = refl
-or-left false false true d e f g = refl
-or-left false false false true e f g = refl
-or-left false false false false true f g = refl
-or-left false false false false false true g = refl
-or-left false false false false false false g = refl
-
 names-are : (n : Text) → is_among names n ≡ is_name n
-names-are n =
-    rw (
-      or-false,
-      swap-text (codes "grid") n,
-      swap-text (codes "make") n,
-      swap-text (codes "weights") n,
-      swap-text (codes "steps") n,
-      swap-text (codes "div") n,
-      swap-text (codes "edge") n,
-      swap-text (codes "around") n,
-    )
-    (or-left (bytes_eq n (codes "grid")) (bytes_eq n (codes "make")) (bytes_eq n (codes "weights")) (bytes_eq n (codes "steps")) (bytes_eq n (codes "div"))
-    (bytes_eq n (codes "edge")) (bytes_eq n (codes "around")))
+names-are n = refl
 
 -- ---- after the walk
 

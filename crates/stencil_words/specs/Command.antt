@@ -1,16 +1,11 @@
 -- The command as `clap` reads it: seven options, each with its name in full and one value.
-use Rattle.std.specs.Prelude.{◌≡◌, true, false, List, [], ◌∷◌, map, codes, Option, Some, None}
-use Rattle.stencil_words.specs.Options.{Pair, Text, are_sound, value}
+use Rattle.std.specs.Prelude.{◌≡◌, true, false, List, map, codes, Option, Some, None}
+use Rattle.stencil_words.specs.Options.{Pair, Text, are_sound, names, value}
 use Rattle.stencil_words.specs.Words.{Values}
 use Rattle.clap.specs.Words.{App, Rule, first_value, found_of, new_app, new_rule}
 use Rattle.clap.specs.Simple.{on_top}
 use Rattle.clap.specs.declared.parser.matches.ArgMatches.{ArgMatches}
 use Rattle.clap.specs.declared.builder.action.ArgAction.TheVariants.{Set}
-
--- the names of the options
-abbrev pub names : List Text
-names =
-    codes "grid" ∷ codes "make" ∷ codes "weights" ∷ codes "steps" ∷ codes "div" ∷ codes "edge" ∷ codes "around" ∷ []
 
 -- the argument of a name
 abbrev pub option_rule : Text → Rule

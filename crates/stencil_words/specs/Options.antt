@@ -1,5 +1,5 @@
 -- The options in the words of a command line.
-use Rattle.std.specs.Prelude.{◌≡◌, ℕ, ◌==◌, Bool, true, false, ◌&&◌, ◌||◌, not, nat_lt, ◌≤◌, bytes_eq, codes, if◌then◌else◌, List, [], ◌∷◌, length, map, find, Option, Some, None, is_some, option_map, option_and_then, String, string_bytes}
+use Rattle.std.specs.Prelude.{◌≡◌, ℕ, ◌==◌, Bool, true, false, ◌&&◌, not, nat_lt, ◌≤◌, bytes_eq, codes, if◌then◌else◌, List, [], ◌∷◌, length, map, find, Option, Some, None, is_some, option_map, option_and_then, String, string_bytes}
 use Rattle.std.specs.Borrow.{Bor}
 use Rattle.std.specs.declared.alloc.Global.{Global}
 use Rattle.std.specs.List.{after_first, before_first, list_any, position_or_len}
@@ -92,11 +92,12 @@ IsBehindFirst word after (Some rest) =
     (length rest.now ≤ length after) × (is_some (options_of (word ∷ texts after)) ≡ is_some (options_of (texts rest.now)))
 
 -- the names of options
+abbrev pub names : List Text
+names =
+    codes "grid" ∷ codes "make" ∷ codes "weights" ∷ codes "steps" ∷ codes "div" ∷ codes "edge" ∷ codes "around" ∷ []
+
 abbrev pub is_name : Text → Bool
-is_name name =
-    bytes_eq name (codes "grid") || bytes_eq name (codes "make") || bytes_eq name (codes "weights")
-    || bytes_eq name (codes "steps") || bytes_eq name (codes "div") || bytes_eq name (codes "edge")
-    || bytes_eq name (codes "around")
+is_name name = list_any (λ known. bytes_eq known name) names
 
 -- whether options have one of this name
 abbrev pub has : Text → List Pair → Bool
