@@ -1,19 +1,16 @@
 -- Weights that are written into lanes one by one, and weights that are found to be mirrored.
-use Rattle.std.proofs.Common.{◌≡◌, ◌∙◌, refl, sym, ap, subst, zero-add, inl, inr, ℕ, ◌+◌, ◌-◌, ◌*◌, ◌<◌, ◌≤◌, ℤ, pos, to_z, of_z, w64, Bool, List, [], ◌∷◌, length, map, replicate, get_or, set, drop, get_or-set_other, get_or-set_same, length-set, arith}
+use Rattle.std.proofs.Common.{◌≡◌, ◌∙◌, refl, sym, ap, subst, inl, inr, ℕ, ◌+◌, ◌-◌, ◌*◌, ◌<◌, ◌≤◌, ℤ, pos, to_z, of_z, w64, Bool, List, [], ◌∷◌, length, map, replicate, get_or, set, get_or-set_other, get_or-set_same, length-set, arith}
 use Rattle.std.specs.List.{All}
 use Rattle.std.specs.Simd.Lanes.{chunk, Each1}
 use Rattle.std.proofs.lemmas.Bool.{cases_lt}
 use Rattle.std.proofs.lemmas.Int.{to_z-of_z, fits_signed_from_abs}
-use Rattle.std.proofs.lemmas.List.{get_or-take, get_or-drop, length-take-le, length-drop}
 use Rattle.std.proofs.lemmas.List.Elements.{All-set, All-replicate}
 use Rattle.std.proofs.lemmas.Nat.{mul-le}
-use Rattle.std.proofs.lemmas.Simd.{length-chunk, get_or-chunk}
-use borrow.Rule.Slice.PartMut.{mid_of}
 use Rattle.stencil_def.specs.Limits.{IsWeight}
 use Rattle.stencil_def.specs.Square.{Square, side, weight}
 use Rattle.cell_lanes.specs.Lanes.{two}
 use Rattle.cell_lanes.specs.Mirror.{AreReady}
-use Rattle.cell_lanes.proofs.TwoFacts.{list-two}
+use Rattle.cell_lanes.proofs.TwoFacts.{chunk-two}
 
 -- the place of a weight is within the square, which has at most 25
 place-inside : (s a b : ℕ) → a < s → b < s → a * s + b < s * s
@@ -79,18 +76,10 @@ ready-at w lanes reach a b r ready same near p q is limits =
     let next : a * (2 * reach + 1) + (b + 1) ≡ place + 1 = omega arith in
     rw (back r limits, next) (ready-next w lanes place r ready small value limits)
 
--- two neighbouring lanes that hold one weight, as they are loaded from a part of all the lanes
-loaded-pair : (lanes : List ℤ) (at : ℕ) (v : ℤ) → length lanes ≡ 50 → at + 2 ≤ 50 → get_or lanes (at + 0) (pos 0) ≡ v → get_or lanes (at + 1) (pos 0) ≡ v
-    → chunk 0 2 (mid_of at (50 - at) lanes) ≡ two (λ i. v)
-loaded-pair lanes at v long inside left right =
-    let part = mid_of at (50 - at) lanes in
-    let rest : length (drop at lanes) ≡ 50 - at = length-drop at lanes ∙ ap (λ n. n - at) long in
-    let part-long : length part ≡ 50 - at = length-take-le (50 - at) (drop at lanes) (omega arith) in
-    let lane : (i : ℕ) → i < 2 → get_or (chunk 0 2 part) i (pos 0) ≡ get_or lanes (at + i) (pos 0) =
-    λ i h. get_or-chunk 0 2 part i (pos 0) h ∙ (ap (λ n. get_or part n (pos 0)) (zero-add i) ∙ get_or-take (50 - at) (drop at lanes) i (pos 0) (omega arith) ∙ get_or-drop at lanes i (pos 0)) in
-    let first = lane 0 (omega arith) ∙ left in
-    let second = lane 1 (omega arith) ∙ right in
-    list-two (chunk 0 2 part) (length-chunk 0 2 part (omega arith)) ∙ (λ i. first i ∷ second i ∷ [])
+-- two neighbouring lanes that hold one weight, as they are loaded
+loaded-pair : (lanes : List ℤ) (at : ℕ) (v : ℤ) → at + 2 ≤ length lanes → get_or lanes (at + 0) (pos 0) ≡ v → get_or lanes (at + 1) (pos 0) ≡ v
+    → chunk at 2 lanes ≡ two (λ i. v)
+loaded-pair lanes at v inside left right = chunk-two lanes at inside ∙ (λ i. left i ∷ right i ∷ [])
 
 -- a weight of a square is in its limits, since it stands in the lanes
 pub weight-limits : (w : Square) (lanes : List ℤ) (mirrored : Bool) (a b : ℕ) → AreReady w lanes mirrored → a < side w → b < side w → IsWeight (weight w a b)
@@ -103,19 +92,19 @@ weight-limits w lanes mirrored a b ready p q =
 
 -- a weight, as it is loaded
 pub loaded-weight : (w : Square) (lanes : List ℤ) (mirrored : Bool) (reach a b : ℕ) → AreReady w lanes mirrored → reach ≡ w.reach → a < side w → b < side w
-    → map (to_z w64) (map (of_z w64) (chunk 0 2 (mid_of (2 * (a * (2 * reach + 1) + b)) (50 - 2 * (a * (2 * reach + 1) + b)) lanes))) ≡ two (λ i. weight w a b)
+    → map (to_z w64) (map (of_z w64) (chunk (2 * (a * (2 * reach + 1) + b)) 2 lanes)) ≡ two (λ i. weight w a b)
 loaded-weight w lanes mirrored reach a b ready same p q =
     let near = ready.near in
     let k = a * side w + b in
     let inside : k < side w * side w = place-inside (side w) a b p q in
     let small : k < 25 = place-small (side w) a b (omega arith) p q in
-    let loaded : chunk 0 2 (mid_of (2 * k) (50 - 2 * k) lanes) ≡ two (λ i. weight w a b) =
-    loaded-pair lanes (2 * k) (weight w a b) ready.lanes_length (omega arith) (ready.both_lanes k 0 inside (omega arith)) (ready.both_lanes k 1 inside (omega arith)) in
+    let loaded : chunk (2 * k) 2 lanes ≡ two (λ i. weight w a b) =
+    loaded-pair lanes (2 * k) (weight w a b) (let long = ready.lanes_length in omega arith) (ready.both_lanes k 0 inside (omega arith)) (ready.both_lanes k 1 inside (omega arith)) in
     let whole = back (weight w a b) (weight-limits w lanes mirrored a b ready p q) in
     rw same (rw loaded (λ i. whole i ∷ whole i ∷ []))
 
 pub loaded-limits : (w : Square) (lanes : List ℤ) (mirrored : Bool) (reach a b : ℕ) → AreReady w lanes mirrored → reach ≡ w.reach → a < side w → b < side w
-    → Each1 IsWeight (map (to_z w64) (map (of_z w64) (chunk 0 2 (mid_of (2 * (a * (2 * reach + 1) + b)) (50 - 2 * (a * (2 * reach + 1) + b)) lanes))))
+    → Each1 IsWeight (map (to_z w64) (map (of_z w64) (chunk (2 * (a * (2 * reach + 1) + b)) 2 lanes)))
 loaded-limits w lanes mirrored reach a b ready same p q =
     let one = weight-limits w lanes mirrored a b ready p q in
     let both : Each1 IsWeight (two (λ i. weight w a b)) = (one, (one, tt)) in

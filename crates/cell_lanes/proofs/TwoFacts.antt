@@ -15,7 +15,7 @@ two-all P f h = (h 0, (h 1, tt))
 pub two-back : (vs : List ℤ) (f : ℕ → ℤ) → vs ≡ two f → ((k : ℕ) → unsigned_abs (f k) < 2 ^ 63) → map (to_z w64) (map (of_z w64) vs) ≡ two f
 two-back vs f e h = rw e (two-same (λ k. to_z w64 (of_z w64 (f k))) f (λ k. back (f k) (h k)))
 
-pub list-two : (xs : List ℤ) → length xs ≡ 2 → xs ≡ two (λ k. get_or xs k (pos 0))
+list-two : (xs : List ℤ) → length xs ≡ 2 → xs ≡ two (λ k. get_or xs k (pos 0))
 list-two [] e = absurd (omega arith)
 list-two (a ∷ []) e = absurd (omega arith)
 list-two (a ∷ b ∷ []) e = refl

@@ -98,7 +98,7 @@ impl LaneWeights {
         ensures value { result ≡ two (λ i. weight self.now a b) }
         ensures limits { Each1 IsWeight result }
     {
-        let lanes = &self.lanes;
+        let lanes: &[i64] = &self.lanes;
         let place = LANES * (a * (2 * reach + 1) + b) as usize;
         i64x2::from_slice(&lanes[place..])
     }
