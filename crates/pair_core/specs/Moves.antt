@@ -105,7 +105,10 @@ module _ {A : Type 0} where
       (k ≡ s.recv.round) × IsRecvActive g s.recv
       × ((q : ℕ) → q < g.recv_parts → (part_bit (λ t. s.word (Take t)) q ≡ 1) × (part_bit (λ t. s.word (Return t)) q ≡ 1))
   IsAllowed g s (Split n) = (2 ≤ n) × (s.life n ≡ Blank)
-  IsAllowed g s (Rise n w more) = (s.life n ≡ Live) × ((x : Name) → Fits g x → IsLater (s.seen n x) (w x) × IsLater (w x) (s.word x))
+  -- what a seat is told was so; the move counts one look at most, and leaves names alone that the pair doesn't have
+  IsAllowed g s (Rise n w more) =
+      (s.life n ≡ Live) × ((x : Name) → Fits g x → IsLater (s.seen n x) (w x) × IsLater (w x) (s.word x))
+      × (more ≤ 1) × ((x : Name) → ¬ Fits g x → w x ≡ s.seen n x)
   IsAllowed g s (Join n) = (2 ≤ n) × (s.life n ≡ Live) × (s.pending n ≡ None)
 
 -- Round 0 counts as sent, taken, given back and released. These are the words before the first move, by name; a mask

@@ -10,13 +10,13 @@ use Rattle.pair_core.specs.Words.{bit}
 use Rattle.pair_core.specs.Names.{Name, Claim, Release, Take, Return, Piece, claim_words, take_words, Fits}
 use Rattle.pair_core.specs.Core.{Core, Slot, Home, Out, IsMarker, IsWatcher, has, times}
 use Rattle.pair_core.specs.Reading.{part_bit, next_round, laid, IsFull, last_round}
-use Rattle.pair_core.specs.Moves.{IsRecvActive}
+use Rattle.pair_core.specs.Moves.{IsRecvActive, first_word}
 use Rattle.pair_core.specs.declared.view.Mark.{Mark}
 use Rattle.pair_core.specs.declared.view.Pending.{Pending}
 use Rattle.pair_core.specs.declared.view.SendSide.{SendSide}
 use Rattle.pair_core.specs.declared.view.RecvSide.{RecvSide}
 use Rattle.pair_core.specs.declared.view.Life.{Life}
-use Rattle.pair_core.specs.declared.view.Life.TheVariants.{Live, Spent}
+use Rattle.pair_core.specs.declared.view.Life.TheVariants.{Blank, Live, Spent}
 
 -- how far both sides are: each opens its words in order, and the sender is at most `depth` rounds ahead of the release
 pub record Progress (g : Shape) (released : ℕ) (send : SendSide) (recv : RecvSide) : Type 0 where
@@ -34,6 +34,7 @@ pub record Progress (g : Shape) (released : ℕ) (send : SendSide) (recv : RecvS
   pub takes : recv.takes ≤ take_words g
   pub takes_last : 1 ≤ recv.takes → recv.returns ≡ take_words g
   pub ends_last : 1 ≤ recv.released → recv.takes ≡ take_words g
+  pub ends_once : recv.released ≤ 1
   pub current : recv.round + recv.released ≡ released + 1
 
 -- The claim words. A word that is shut in this round, or not yet opened in it, has each of its partitions.
@@ -108,15 +109,20 @@ IsLent g claim piece send c = IsOwed g claim piece send (send_of g c) (piece_of 
 abbrev pub IsHeld : Shape → (ℕ → ℕ) → (ℕ → ℕ) → RecvSide → ℕ → Type 0
 IsHeld g take ret recv c = IsRecvActive g recv × (part_bit take (recv_of g c) ≡ 1) × (part_bit ret (recv_of g c) ≡ 0)
 
--- Where the slots are. A buffer that is home has the round of its piece's word, where the word has its partition and
--- it wasn't given back in that round.
+-- a buffer of cell c that is home has the round of its piece's word: the word has its send partition, and it wasn't
+-- given back in that round
+pub record HasRound (g : Shape) (ret : ℕ → ℕ) (word c : ℕ) : Type 0 where
+  pub laid : laid g word (piece_of g c) (send_of g c) ≡ 1
+  pub kept : next_round ret (recv_of g c) ≤ round_in word
+
+-- where the slots are, and which round a buffer has that is home
 pub record Slots (g : Shape) (claim take ret : ℕ → ℕ) (piece : ℕ → ℕ → ℕ) (send : SendSide) (recv : RecvSide) (slot : ℕ → ℕ → Slot) (who : ℕ → ℕ → ℕ) : Type 0 where
   pub lent : (c : ℕ) → c < cells g → IsLent g claim piece send c → slot (send.round % g.depth) c ≡ Out (who send.round (send_of g c))
   pub held : (c : ℕ) → c < cells g → IsHeld g take ret recv c → slot (recv.round % g.depth) c ≡ Out 1
   pub home : (d c : ℕ) → d < g.depth → c < cells g → ¬ ((d ≡ send.round % g.depth) × IsLent g claim piece send c)
       → ¬ ((d ≡ recv.round % g.depth) × IsHeld g take ret recv c) → (k : ℕ) × (slot d c ≡ Home k)
-  pub tied : (d c k : ℕ) → d < g.depth → c < cells g → slot d c ≡ Home k → laid g (piece d (piece_of g c)) (piece_of g c) (send_of g c) ≡ 1
-      → next_round ret (recv_of g c) ≤ round_in (piece d (piece_of g c)) → k ≡ round_in (piece d (piece_of g c))
+  pub tied : (d c k : ℕ) → d < g.depth → c < cells g → slot d c ≡ Home k → HasRound g ret (piece d (piece_of g c)) c
+      → k ≡ round_in (piece d (piece_of g c))
 
 -- Marks. A partition is marked in each round before the first in which it isn't claimed, by one seat and once.
 pub record Marks {A : Type 0} (g : Shape) (claim : ℕ → ℕ) (life : ℕ → Life) (marks : ℕ → List (Mark A)) (who : ℕ → ℕ → ℕ) : Type 0 where
@@ -143,9 +149,25 @@ IsUsed g (Piece d i) j = j < need_count g i
 abbrev pub Unused : Shape → (Name → ℕ) → Type 0
 Unused g word = (x : Name) (j : ℕ) → Fits g x → j < 33 → ¬ IsUsed g x j → bit (word x) j ≡ 0
 
--- no seat has seen what isn't so
-abbrev pub Seen : Shape → (Name → ℕ) → (ℕ → Life) → (ℕ → Name → ℕ) → Type 0
-Seen g word life seen = (n : ℕ) (x : Name) → life n ≢ Spent → Fits g x → IsLater (seen n x) (word x)
+-- no seat has seen what isn't so, and each has seen the first words at least
+pub record Seen (g : Shape) (word : Name → ℕ) (life : ℕ → Life) (seen : ℕ → Name → ℕ) : Type 0 where
+  pub present : (n : ℕ) (x : Name) → life n ≢ Spent → Fits g x → IsLater (seen n x) (word x)
+  pub first : (n : ℕ) (x : Name) → Fits g x → IsLater (first_word g x) (seen n x)
+
+-- while no claim word is shut, the send side has seen in its round each claim word that it opened
+abbrev pub SeesOpened : SendSide → (Name → ℕ) → Type 0
+SeesOpened send seen = (c : ℕ) → send.shut ≡ 0 → c < send.opened → round_in (seen (Claim c)) ≡ send.round
+
+-- a view in which nothing was done: its seat has seen the first words
+pub record IsNew {A : Type 0} (g : Shape) (seen looks : Name → ℕ) (pending : Option Pending) (marks : List (Mark A)) : Type 0 where
+  pub seen : (x : Name) → Fits g x → seen x ≡ first_word g x
+  pub looks : (x : Name) → Fits g x → looks x ≡ 0
+  pub pending : pending ≡ None
+  pub marks : marks ≡ []
+
+-- a seat that has no view so far has such a one when it gets one
+abbrev pub News : {A : Type 0} → Shape → (ℕ → Life) → (ℕ → Name → ℕ) → (ℕ → Name → ℕ) → (ℕ → Option Pending) → (ℕ → List (Mark A)) → Type 0
+News g life seen looks pending marks = (n : ℕ) → life n ≡ Blank → IsNew g (seen n) (looks n) (pending n) (marks n)
 
 -- the receive side alone writes take and return words, and has seen them as they are
 pub record Owns (g : Shape) (take ret : ℕ → ℕ) (seen : Name → ℕ) : Type 0 where
@@ -183,5 +205,7 @@ pub record Sound {A : Type 0} (g : Shape) (s : Core A) : Type 0 where
   pub takes : Takes g (λ t. s.word (Take t)) (λ d i. s.word (Piece d i)) s.takes
   pub unused : Unused g s.word
   pub seen : Seen g s.word s.life s.seen
+  pub opened : SeesOpened s.send (s.seen 0)
+  pub news : News g s.life s.seen s.looks s.pending s.marks
   pub owns : Owns g (λ t. s.word (Take t)) (λ t. s.word (Return t)) (s.seen 1)
   pub lives : Lives s.life s.send.markers s.recv.watchers
