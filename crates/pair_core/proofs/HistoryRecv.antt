@@ -44,7 +44,7 @@ pub full_now : {A : Type 0} (g : Shape) → IsShape g → (s : Core A) (i : ℕ)
 full_now {A} g v s i r inside saw busy =
     let d : ℕ = s.recv.round % g.depth in let w : ℕ = s.word (Piece d i) in let o : ℕ = s.seen 1 (Piece d i) in
     let place = place_lt g.depth s.recv.round v.depth.0 v.depth.1 in
-    let later = r.seen 1 (Piece d i) (live_unspent (s.life 1) r.lives.recv) (place, inside) in
+    let later = r.seen.present 1 (Piece d i) (live_unspent (s.life 1) r.lives.recv) (place, inside) in
     let up = later_round o w later in let round = saw.round in
     let most = round_le g (λ c. s.word (Claim c)) (λ e j. s.word (Piece e j)) s.send r.pieces d i place inside in
     let current = r.progress.current in let ahead = r.progress.ahead in

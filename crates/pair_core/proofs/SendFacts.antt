@@ -23,7 +23,7 @@ live_unspent x e f = absurd (cc)
 
 -- a seat that has a view has seen no later round of the release than there is
 pub seen_release : {A : Type 0} (g : Shape) (s : Core A) (n : ℕ) → Sound g s → s.life n ≢ Spent → round_in (s.seen n Release) ≤ round_in (s.word Release)
-seen_release {A} g s n r live = later_round (s.seen n Release) (s.word Release) (r.seen n Release live tt)
+seen_release {A} g s n r live = later_round (s.seen n Release) (s.word Release) (r.seen.present n Release live tt)
 
 -- the round's last piece word at the sender's own place
 pub last_now : (depth k : ℕ) → last_round depth k (k % depth) ≡ k
@@ -134,13 +134,13 @@ may_shut {A} g v s r opened unshut may =
       (λ p h.
           let c : ℕ = p / 32 in let saw = may.claimed p h in
           let now = (r.gates.is_open c (omega arith) (omega arith)).0 in
-          let l = r.seen 0 (Claim c) live (claim_word g p h) in
+          let l = r.seen.present 0 (Claim c) live (claim_word g p h) in
           let b = later_bit (s.seen 0 (Claim c)) (s.word (Claim c)) l (saw.0 ∙ sym now) (p % 32) (omega arith) in
           let one = saw.1 in let small = bit_lt (s.word (Claim c)) (p % 32) in omega arith),
       (λ i p h t.
           let d : ℕ = s.send.round % g.depth in let saw = may.full i h in
           let now = r.pieces.current i (omega arith) in
-          let l = r.seen 0 (Piece d i) live (place_lt g.depth s.send.round v.depth.0 v.depth.1, h) in
+          let l = r.seen.present 0 (Piece d i) live (place_lt g.depth s.send.round v.depth.0 v.depth.1, h) in
           let j = bit_small g v i p h t in
           let b = later_bit (s.seen 0 (Piece d i)) (s.word (Piece d i)) l (saw.round ∙ sym now) (p - first_part g i) (omega arith) in
           let one = saw.all p t in let small = bit_lt (s.word (Piece d i)) (p - first_part g i) in omega arith),

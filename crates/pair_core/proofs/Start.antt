@@ -136,6 +136,7 @@ starts_sound {A} g v =
         takes = omega arith;
         takes_last = λ _. refl;
         ends_last = λ _. refl;
+        ends_once = omega arith;
         current = omega arith;
       };
       gates = record {
@@ -173,7 +174,7 @@ starts_sound {A} g v =
         lent = λ c h o. let z = o.0.0 in absurd (omega arith);
         held = λ c h o. let z = o.0.1 in absurd (omega arith);
         home = λ d c _ _ _ _. (0, refl);
-        tied = λ d c k h l at _ _. let e = (piece_full g v d (piece_of g c) (cell_piece g c l)).round in let f : 0 ≡ k = cc in omega arith;
+        tied = λ d c k h l at _. let e = (piece_full g v d (piece_of g c) (cell_piece g c l)).round in let f : 0 ≡ k = cc in omega arith;
       };
       marks = record {
         own = λ n k p h. absurd (omega arith);
@@ -185,7 +186,9 @@ starts_sound {A} g v =
         out = λ k q i p h. absurd (omega arith);
       };
       unused = clean g v;
-      seen = λ n x _ _. later_refl (first_word g x);
+      seen = record { present = λ n x _ _. later_refl (first_word g x); first = λ n x _. later_refl (first_word g x) };
+      opened = λ c unshut l. absurd (omega arith);
+      news = λ n _. record { seen = λ x _. refl; looks = λ x _. refl; pending = refl; marks = refl };
       owns = record { takes = λ t _. refl; returns = λ t _. refl };
       lives = record {
         send = low_seat 0 (omega arith);

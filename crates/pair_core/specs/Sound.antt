@@ -159,11 +159,11 @@ abbrev pub SeesOpened : SendSide → (Name → ℕ) → Type 0
 SeesOpened send seen = (c : ℕ) → send.shut ≡ 0 → c < send.opened → round_in (seen (Claim c)) ≡ send.round
 
 -- a view in which nothing was done: its seat has seen the first words
-pub record IsNew {A : Type 0} (g : Shape) (seen looks : Name → ℕ) (pending : Option Pending) (marks : List (Mark A)) : Type 0 where
-  pub seen : (x : Name) → Fits g x → seen x ≡ first_word g x
-  pub looks : (x : Name) → Fits g x → looks x ≡ 0
-  pub pending : pending ≡ None
-  pub marks : marks ≡ []
+pub record IsNew {A : Type 0} (g : Shape) (saw looked : Name → ℕ) (claim : Option Pending) (marked : List (Mark A)) : Type 0 where
+  pub seen : (x : Name) → Fits g x → saw x ≡ first_word g x
+  pub looks : (x : Name) → Fits g x → looked x ≡ 0
+  pub pending : claim ≡ None
+  pub marks : marked ≡ []
 
 -- a seat that has no view so far has such a one when it gets one
 abbrev pub News : {A : Type 0} → Shape → (ℕ → Life) → (ℕ → Name → ℕ) → (ℕ → Name → ℕ) → (ℕ → Option Pending) → (ℕ → List (Mark A)) → Type 0

@@ -9,6 +9,7 @@ use Rattle.part_geometry.specs.Walk.{cell_at}
 use Rattle.pair_core.specs.Names.{Name, claim_words, take_words, Fits, number}
 use Rattle.pair_core.specs.Core.{Core, Slot, Home, Out}
 use Rattle.pair_core.specs.Moves.{last_round_number, first_word}
+use Rattle.pair_core.specs.Sound.{IsNew}
 use Rattle.pair_core.specs.declared.view.Mark.{Mark}
 use Rattle.pair_core.specs.declared.view.SendSide.{SendSide}
 use Rattle.pair_core.specs.declared.view.RecvSide.{RecvSide}
@@ -84,13 +85,10 @@ pub record IsFresh (g : Shape) (v : Seat) : Type 0 where
   pub pending : v.pending ≡ None
   pub marks : v.marks ≡ []
 
--- and any other seat is blank: it has seen the first words, and did nothing
+-- and any other seat is blank
 pub record IsBlank (g : Shape) (n : ℕ) (core : Core Plain) : Type 0 where
   pub blank : core.life n ≡ Blank
-  pub seen : (x : Name) → Fits g x → core.seen n x ≡ first_word g x
-  pub looks : (x : Name) → Fits g x → core.looks n x ≡ 0
-  pub pending : core.pending n ≡ None
-  pub marks : core.marks n ≡ []
+  pub new : IsNew g (core.seen n) (core.looks n) (core.pending n) (core.marks n)
 
 -- what is kept shows a core
 pub record Stands (g : Shape) (words : List ℕ) (slots : List Spot) (send : SendSide) (recv : RecvSide) (seats : List Seat) (takes : List (Mark Plain)) (core : Core Plain) : Type 0 where

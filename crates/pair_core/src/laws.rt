@@ -11,7 +11,6 @@ ghost use Rattle.pair_core.specs.Replaying.{IsOneMove, LeadToOne};
 /// of a round goes out at most once, right after the last of its partitions was laid into it, and so on, a sentence each
 /// [`order`]. The slots that a take takes have the round of the take [`slots`]. What else a layer above may rest on in a
 /// sound state, a sentence each [`facts`].
-#[tactic(auto, using(crate::proofs::Order::order_always, crate::proofs::Facts::facts))]
 pub fn core_laws<A>()
     ensures sound { (g : Shape) → IsShape g → StaysSound A g }
     ensures order { (g : Shape) → IsShape g → KeepsOrderAlways A g }
