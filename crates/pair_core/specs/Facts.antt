@@ -34,6 +34,8 @@ module _ {A : Type 0} where
   BringsHome g s m d c = (n : ℕ) × (m ≡ LayPiece n (send_of g c) (piece_of g c)) × (d ≡ s.send.round % g.depth)
 
 pub record StateFacts (A : Type 0) (g : Shape) : Type 0 where
+  -- after a move each word is the one before it, or later
+  pub words_grow : (s : Core A) (m : Move A) (x : Name) → Sound g s → IsAllowed g s m → Fits g x → IsLater (s.word x) ((after g s m).word x)
   -- An open claim word is of the sender's round, and was opened and not yet shut in it; while it lacks a partition, no claim
   -- word is shut.
   pub open_is_active : (s : Core A) (c : ℕ) → Sound g s → c < claim_words g → bit (s.word (Claim c)) 32 ≡ 0
