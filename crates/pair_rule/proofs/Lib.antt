@@ -1,0 +1,10 @@
+pub mod Core
+pub mod Bridge
+pub mod Sides
+pub mod Allowed
+pub mod Marks
+pub mod Learning
+pub mod SideSteps
+pub mod SlotFacts
+pub mod Claiming
+pub mod Laying

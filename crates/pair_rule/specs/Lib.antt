@@ -1,0 +1,6 @@
+pub mod Buf
+pub mod Views
+pub mod First
+pub mod Told
+pub mod Rule
+pub mod Steps

@@ -1,0 +1,125 @@
+-- The rule of the table: it shows a sound state of the core, and its buffers have the bytes of the marks.
+use Rattle.std.specs.Prelude.{◌≡◌, ◌≢◌, ◌⊎◌, ℕ, ◌+◌, ◌-◌, ◌*◌, ◌%◌, ◌<◌, ◌≤◌, Bool, true, false, List, [], ◌∷◌, length, slice_index, Contains, Option, Some, None, min}
+use mathlib.Core.Option.{some, none}
+use mathlib.Core.Option as maybe
+use lib.ListN.{get_elem?}
+use Rattle.atomic_table.specs.Table.{State}
+use Rattle.gate_word.specs.Words.{round_in}
+use Rattle.gate_word.specs.Order.{IsLater}
+use Rattle.part_geometry.specs.Shape.{Shape, IsShape}
+use Rattle.part_geometry.specs.Cells.{cells, start, end}
+use Rattle.part_tables.specs.Bytes.{cell_bytes, part_bytes}
+use Rattle.pair_core.specs.Names.{Name, Fits, number}
+use Rattle.pair_core.specs.Core.{Core, Slot, Home, Out, IsMarker, IsWatcher}
+use Rattle.pair_core.specs.Moves.{first_word, first_state}
+use Rattle.pair_core.specs.Sound.{Sound}
+use Rattle.pair_core.specs.State.{word_count, ListsWords}
+use Rattle.pair_core.specs.Facts.{piece_word, IsKept}
+use Rattle.pair_core.specs.declared.view.Mark.{Mark}
+use Rattle.pair_core.specs.declared.view.RecvSide.{RecvSide}
+use Rattle.pair_core.specs.declared.view.Life.TheVariants.{Blank, Live}
+use Rattle.pair_rule.specs.Buf.{Buf}
+use Rattle.pair_rule.specs.declared.view.View.{View}
+use Rattle.pair_rule.specs.declared.view.Standing.TheVariants.{Seated, Told}
+use Rattle.pair_rule.specs.declared.rule.Key.{Key}
+
+abbrev pub At : Type 0
+At = State (Option Buf) View
+
+-- the state of a core whose marks and takes keep their bytes
+abbrev pub Shown : Type 0
+Shown = Core (List ℕ)
+
+-- the number of the slot of cell c at place d
+abbrev pub slot_number : Shape → ℕ → ℕ → ℕ
+slot_number g d c = d * cells g + c
+
+-- how many bytes cell c has
+abbrev pub cell_length : Shape → ℕ → ℕ
+cell_length g c = end g c - start g c
+
+-- what the table has at the slot of cell c: a buffer with the round and the cell's length, or nothing where it is out
+abbrev pub Stands : Shape → ℕ → maybe.Option (maybe.Option (Option Buf)) → Slot → Type 0
+Stands g c h (Home k) = (b : Buf) × (h ≡ some (some (Some b))) × (b.round ≡ k) × (length b.bytes ≡ cell_length g c)
+Stands g c h (Out n) = h ≡ some none
+
+-- The numbers that were given so far, where so many markers and watchers were made: both sides have theirs, the receive
+-- side once it is made.
+abbrev pub Given : Bool → ℕ → ℕ → ℕ → Type 0
+Given alone markers watchers n =
+    (n ≡ 0) ⊎ ((n ≡ 1) × (alone ≡ false)) ⊎ (IsMarker n × (n < 2 + 2 * markers)) ⊎ (IsWatcher n × (n < 3 + 2 * watchers))
+
+-- The view of the table's seat i shows the core's view of its number, part by part. `seat` is the table's seat of each
+-- number, so no two views have one.
+pub record Agrees (g : Shape) (core : Shown) (alone : Bool) (markers watchers : ℕ) (seat : ℕ → ℕ) (i : ℕ) (d : View) : Type 0 where
+  pub geometry : d.geometry ≡ g
+  pub seat_is : seat d.number ≡ i
+  pub given : Given alone markers watchers d.number
+  pub live : core.life d.number ≡ Live
+  pub seen_size : length d.seen ≡ word_count g
+  pub looks_size : length d.looks ≡ word_count g
+  pub seen_is : ListsWords g d.seen (core.seen d.number)
+  pub looks_is : ListsWords g d.looks (core.looks d.number)
+  pub pending_is : d.pending ≡ core.pending d.number
+  pub marks_is : d.marks ≡ core.marks d.number
+  pub send_is : d.number ≡ 0 → d.send ≡ core.send
+  pub markers_is : d.number ≡ 0 → (d.made ≡ markers) × (d.alone ≡ alone)
+  pub recv_is : d.number ≡ 1 → d.recv ≡ core.recv
+  pub takes_is : d.number ≡ 1 → d.takes ≡ core.takes
+  pub watchers_is : d.number ≡ 1 → d.made ≡ watchers
+
+-- a note has been told of words that were so
+pub record Tells (g : Shape) (core : Shown) (d : View) : Type 0 where
+  pub geometry : d.geometry ≡ g
+  pub seen_size : length d.seen ≡ word_count g
+  pub seen_is : (x : Name) → Fits g x → IsLater (slice_index d.seen (number g x)) (core.word x)
+
+-- until the receive side is made its view is the first one
+pub record IsFirst (g : Shape) (core : Shown) : Type 0 where
+  pub recv : core.recv ≡ (first_state {A = List ℕ} g).recv
+  pub seen : (x : Name) → Fits g x → core.seen 1 x ≡ first_word g x
+  pub looks : (x : Name) → Fits g x → core.looks 1 x ≡ 0
+  pub pending : core.pending 1 ≡ None
+  pub marks : core.marks 1 ≡ []
+  pub takes : core.takes ≡ []
+
+module _ {T : Type 0} (may : T → ℕ → ℕ → ℕ → Type 0) where
+  -- bytes may be marked in round k by partition p: as many as it has, each allowed at its place
+  pub record MayMark (key : Key T) (k p : ℕ) (b : List ℕ) : Type 0 where
+    pub long : length b ≡ key.geometry.send_bytes
+    pub allowed : (j : ℕ) → j < length b → may key.tag k (p * key.geometry.send_bytes + j) (slice_index b j)
+
+  -- a mark has the bytes that were marked in its round, and they may be
+  pub record IsMarked (key : Key T) (bytes : ℕ → ℕ → List ℕ) (m : Mark (List ℕ)) : Type 0 where
+    pub bytes_are : m.with ≡ bytes m.round m.partition
+    pub may_be : MayMark key m.round m.partition m.with
+
+  -- `core` is the state that is shown, `seat` the table's seat of each number given so far, and `bytes` what was marked by
+  -- each partition in each round.
+  pub record Rule (key : Key T) (s : At) : Type 0 where
+    pub core : Shown
+    pub seat : ℕ → ℕ
+    pub alone : Bool
+    pub markers : ℕ
+    pub watchers : ℕ
+    pub bytes : ℕ → ℕ → List ℕ
+    pub shape : IsShape key.geometry
+    pub sound : Sound key.geometry core
+    pub size : length s.words ≡ word_count key.geometry
+    pub room : length s.homes ≡ key.geometry.depth * cells key.geometry
+    pub words : ListsWords key.geometry s.words core.word
+    pub slots : (d c : ℕ) → d < key.geometry.depth → c < cells key.geometry
+        → Stands key.geometry c (get_elem? s.homes (slot_number key.geometry d c)) (core.slot d c)
+    -- a buffer that is home and has the round of its piece's word has the bytes marked in that round
+    pub kept : (d c : ℕ) (b : Buf) → d < key.geometry.depth → c < cells key.geometry → get_elem? s.homes (slot_number key.geometry d c) ≡ some (some (Some b))
+        → IsKept key.geometry core d c → 1 ≤ round_in (piece_word key.geometry core d c)
+        → b.bytes ≡ cell_bytes key.geometry (bytes (round_in (piece_word key.geometry core d c))) c
+    pub seats : (i : ℕ) (d : View) → get_elem? s.views i ≡ some d → d.standing ≡ Seated → Agrees key.geometry core alone markers watchers seat i d
+    pub notes : (i : ℕ) (d : View) → get_elem? s.views i ≡ some d → d.standing ≡ Told → Tells key.geometry core d
+    pub first : alone ≡ true → IsFirst key.geometry core
+    pub new : (n : ℕ) → ¬ Given alone markers watchers n → n ≢ 1 → core.life n ≡ Blank
+    -- each seat of the core that has a view has it in the table
+    pub here : (n : ℕ) → core.life n ≡ Live → (n ≡ 1 → alone ≡ false)
+        → (d : View) × (get_elem? s.views (seat n) ≡ some d) × (d.standing ≡ Seated) × (d.number ≡ n)
+    pub marks : (n : ℕ) (m : Mark (List ℕ)) → Contains (core.marks n) m → IsMarked key bytes m
+    pub takes : (m : Mark (List ℕ)) → Contains core.takes m → m.with ≡ part_bytes key.geometry (bytes m.round) m.partition
