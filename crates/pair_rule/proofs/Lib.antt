@@ -8,3 +8,4 @@ pub mod SideSteps
 pub mod SlotFacts
 pub mod Claiming
 pub mod Laying
+pub mod Taking

@@ -83,11 +83,15 @@ pub record IsFirst (g : Shape) (core : Shown) : Type 0 where
   pub marks : core.marks 1 ≡ []
   pub takes : core.takes ≡ []
 
+-- these bytes may stand in round k from a place of the message on, by the tag: each is allowed at its place
+abbrev pub MayStand : {T : Type 0} → (T → ℕ → ℕ → ℕ → Type 0) → T → ℕ → ℕ → List ℕ → Type 0
+MayStand may tag k from b = (j : ℕ) → j < length b → may tag k (from + j) (slice_index b j)
+
 module _ {T : Type 0} (may : T → ℕ → ℕ → ℕ → Type 0) where
   -- bytes may be marked in round k by partition p: as many as it has, each allowed at its place
   pub record MayMark (key : Key T) (k p : ℕ) (b : List ℕ) : Type 0 where
     pub long : length b ≡ key.geometry.send_bytes
-    pub allowed : (j : ℕ) → j < length b → may key.tag k (p * key.geometry.send_bytes + j) (slice_index b j)
+    pub allowed : MayStand may key.tag k (p * key.geometry.send_bytes) b
 
   -- a mark has the bytes that were marked in its round, and they may be
   pub record IsMarked (key : Key T) (bytes : ℕ → ℕ → List ℕ) (m : Mark (List ℕ)) : Type 0 where

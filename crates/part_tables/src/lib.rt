@@ -1,0 +1,2 @@
+//! Tables (stub).
+#![tactic(auto)]
