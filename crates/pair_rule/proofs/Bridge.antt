@@ -27,7 +27,7 @@ use Rattle.pair_rule.specs.Buf.{Buf}
 use Rattle.pair_rule.specs.Views as view
 use Rattle.pair_rule.specs.Rule.{At, Shown, slot_number, Stands, Given, Agrees, Tells, IsFirst, IsMarked, Rule}
 use Rattle.pair_rule.specs.declared.view.View.{View}
-use Rattle.pair_rule.specs.declared.view.Standing.TheVariants.{Seated, Told}
+use Rattle.pair_rule.specs.declared.view.Standing.TheVariants.{Seated, Told, Closed}
 use Rattle.pair_rule.specs.declared.rule.Key.{Key}
 use Rattle.pair_rule.proofs.Core.{CoreLaws}
 
@@ -120,6 +120,8 @@ module _ {T : Type 0} (may : T → ℕ → ℕ → ℕ → Type 0) (key : Key T)
                 seen_is = λ y f. later_than g r.core c' y (get_or e.seen (number g y) 0) (b.seen_is y f) (grows y f);
               })
               (at_set s.views id i d' e is);
+          running = λ i e is. ⊎_elim (λ (t : (i ≡ id) × (d' ≡ e)). λ closed. let no : d'.standing ≡ Closed = ap (λ (z : View). z.standing) t.1 ∙ closed in absurd (cc))
+              (λ (t : (i ≢ id) × (get_elem? s.views i ≡ some e)). r.running i e t.1) (at_set s.views id i d' e is);
           first = λ is. let b = r.first is in let other : d.number ≢ 1 = λ e. one_not_alone r.alone r.markers r.watchers d.number is e a.given in
               let other' : 1 ≢ d.number = λ e. other (sym e) in record {
               recv = sym (others.recv other) ∙ b.recv;

@@ -9,3 +9,4 @@ pub mod SlotFacts
 pub mod Claiming
 pub mod Laying
 pub mod Taking
+pub mod Returning

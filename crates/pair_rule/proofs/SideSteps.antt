@@ -13,7 +13,7 @@ use Rattle.pair_core.specs.Moves.{Move, StorePiece, StoreClaim, LoadClaim, LoadP
 use Rattle.pair_core.specs.declared.view.SendSide.{SendSide}
 use Rattle.pair_core.specs.declared.view.RecvSide.{RecvSide}
 use Rattle.pair_rule.specs.Buf.{Buf}
-use Rattle.pair_rule.specs.Rule.{At, Shown, Rule}
+use Rattle.pair_rule.specs.Rule.{At, Shown, Rule, Holds}
 use Rattle.pair_rule.specs.Views as view
 use Rattle.pair_rule.specs.Told.{Learns}
 use Rattle.pair_rule.specs.Steps.{MayMake, goes}
@@ -27,14 +27,19 @@ use Rattle.pair_rule.proofs.Learning.{learns}
 use Rattle.pair_rule.proofs.Sides.{stepped_to, sends, receives, looks}
 
 module _ {T : Type 0} (may : T → ℕ → ℕ → ℕ → Type 0) (key : Key T) (L : CoreLaws key.geometry) where
+  -- a seat is one of a running pair
+  pub of_running : (s : At) → Holds may key s → (id : ℕ) (d : View) → get_elem? s.views id ≡ some d → d.standing ≡ Seated → Rule may key s
+  of_running s (inl r) id d at live = r
+  of_running s (inr e) id d at live = absurd (e.over id d at live)
+
   -- a step that moves no slot may be made, where it leads to a state of the core
-  pub going : (slots id : ℕ) (d : View) (held : List (ℕ × Option Buf)) (x : Name) (f found : ℕ → ℕ) (view : ℕ → View → View) (tells : ℕ → View → Type 0) (st : Step (Option Buf))
+  pub going : (slots id : ℕ) (d : View) (held : List (ℕ × Option Buf)) (x : Name) (f found : ℕ → ℕ) (view : ℕ → View → View) (tells : ℕ → View → Type 0) (st : Step (Option Buf)) → d.standing ≡ Seated
       → ((s : At) (r : Rule may key s) → get_elem? s.views id ≡ some d
         → (c' : Shown) × Held may key (stepped_to may key L s x (f (get_or s.words (number key.geometry x) 0)) id (view (found (get_or s.words (number key.geometry x) 0)) d)) c'
         × tells (found (get_or s.words (number key.geometry x) 0)) d)
-      → Allows (Rule may key) slots id (d, held) (number key.geometry x) f (λ n. goes view tells st (d, held) (found n))
-  going slots id d held x f found view tells st leads s r deep at small =
-      let h = leads s r at in (view (found (get_or s.words (number key.geometry x) 0)) d, keeps, tt, h.1.0, (refl, h.2))
+      → Allows (Holds may key) slots id (d, held) (number key.geometry x) f (λ n. goes view tells st (d, held) (found n))
+  going slots id d held x f found view tells st live leads s h deep at small =
+      let l = leads s (of_running s h id d at live) at in (view (found (get_or s.words (number key.geometry x) 0)) d, keeps, tt, inl l.1.0, (refl, l.2))
 
   module _ (s : At) (r : Rule may key s) (id : ℕ) (d : View) (at : get_elem? s.views id ≡ some d) (live : d.standing ≡ Seated) where
     pub store_piece_leads : (k i : ℕ) → MayMake d (StorePiece k i)

@@ -246,3 +246,45 @@ module _ {T : Type 0} (may : T → ℕ → ℕ → ℕ → Type 0) (key : Key T)
           (cleared_length s.homes (slot_number G place first) count)
           stands kept r.marks
           (λ m has. ⊎_elim (λ (e : mark k q w ≡ m). subst (λ (z : Mark (List ℕ)). z.with ≡ part_bytes G (r.bytes z.round) z.partition) e of) (r.takes m) (in_cons (mark k q w) m c.takes has))
+
+  -- what a take leads to, and what the seat is told: buffers with the receiver's round and their cells' lengths, which have the bytes
+  -- that the take keeps, and these may stand there
+  pub record Takes (s : At) (id : ℕ) (d : View) (q v k : ℕ) (c : Shown) : Type 0 where
+    pub bufs : List Buf
+    pub with : List ℕ
+    pub size : length bufs ≡ first_received G (q + 1) - first_received G q
+    pub home : Stand s.homes (slot_number G (k % G.depth) (first_received G q)) (map Some bufs)
+    pub of : AreOf G k (first_received G q) bufs
+    pub bytes : flat_map (λ (y : Buf). y.bytes) bufs ≡ with
+    pub long : length with ≡ G.recv_bytes
+    pub may_stand : MayStand may key.tag k (q * G.recv_bytes) with
+    pub led : Held may key record { words = set s.words (number G (Take (q / 32))) (bit_or v (2 ^ (q % 32)));
+      homes = cleared s.homes (slot_number G (k % G.depth) (first_received G q)) (first_received G (q + 1) - first_received G q);
+      views = set s.views id (view.taken q with (bit_or v (2 ^ (q % 32))) d) } (after G c (TakePart q with))
+
+  pub take_leads : (s : At) (r : Rule may key s) (id : ℕ) (d : View) (q v : ℕ) → get_elem? s.views id ≡ some d → d.standing ≡ Seated → MayMake d (TakePart q [])
+      → v ≡ get_or s.words (number G (Take (q / 32))) 0 → Takes s id d q v d.recv.round r.core
+  take_leads s r id d q v at live h found =
+      let a = r.seats id d at live in let x : Name = Take (q / 32) in
+      let w : List ℕ = part_bytes G (r.bytes r.core.recv.round) q in
+      let allowed : IsAllowed G r.core (TakePart q w) = may_make G r.shape r.core r.alone r.markers r.watchers r.seat id d r.sound a (TakePart q w) h in
+      let fits : Fits G x = word_there q G.recv_parts allowed.0 in
+      let word : r.core.word x ≡ v = sym (found ∙ r.words x fits) in
+      let now : r.core.recv.round ≡ d.recv.round = sym (ap (λ (z : RecvSide). z.round) (a.recv_is h.0)) in
+      let g = gone s r q w allowed in
+      let led = takes_out s r q w allowed id d at live h.0 refl in
+      let here : Takes s id d q v r.core.recv.round r.core = record {
+        bufs = g.0;
+        with = w;
+        size = g.1;
+        home = g.2;
+        of = every_weaker (λ i y. (y.round ≡ r.core.recv.round) × (length y.bytes ≡ cell_length G i) × (y.bytes ≡ cell_bytes G (r.bytes r.core.recv.round) i))
+          (λ i y. (y.round ≡ r.core.recv.round) × (length y.bytes ≡ cell_length G i)) (first_received G q) g.0 (λ i y from to e. (e.0, e.1)) g.3;
+        bytes = whole_bytes s r q w allowed g.0 g.1 g.3;
+        long = length-part_bytes G (r.bytes r.core.recv.round) q;
+        may_stand = may_stand s r q w allowed;
+        led = subst (λ (z : ℕ). Held may key record { words = set s.words (number G x) (bit_or z (2 ^ (q % 32)));
+          homes = cleared s.homes (slot_number G (r.core.recv.round % G.depth) (first_received G q)) (first_received G (q + 1) - first_received G q);
+          views = set s.views id (view.taken q w (bit_or z (2 ^ (q % 32))) d) } (after G r.core (TakePart q w))) word led;
+      } in
+      subst (λ (z : ℕ). Takes s id d q v z r.core) now here

@@ -1,5 +1,5 @@
 -- The rule of the table: it shows a sound state of the core, and its buffers have the bytes of the marks.
-use Rattle.std.specs.Prelude.{◌≡◌, ◌≢◌, ◌⊎◌, ℕ, ◌+◌, ◌-◌, ◌*◌, ◌%◌, ◌<◌, ◌≤◌, Bool, true, false, List, [], ◌∷◌, length, slice_index, Contains, Option, Some, None, min}
+use Rattle.std.specs.Prelude.{◌≡◌, ◌≢◌, ◌⊎◌, ℕ, ◌+◌, ◌-◌, ◌*◌, ◌%◌, ◌<◌, ◌≤◌, Bool, true, false, List, [], ◌∷◌, length, slice_index, Contains, Option, Some, None, if◌then◌else◌}
 use mathlib.Core.Option.{some, none}
 use mathlib.Core.Option as maybe
 use lib.ListN.{get_elem?}
@@ -9,8 +9,8 @@ use Rattle.gate_word.specs.Order.{IsLater}
 use Rattle.part_geometry.specs.Shape.{Shape, IsShape}
 use Rattle.part_geometry.specs.Cells.{cells, start, end}
 use Rattle.part_tables.specs.Bytes.{cell_bytes, part_bytes}
-use Rattle.pair_core.specs.Names.{Name, Fits, number}
-use Rattle.pair_core.specs.Core.{Core, Slot, Home, Out, IsMarker, IsWatcher}
+use Rattle.pair_core.specs.Names.{Name, Claim, Release, Fits, number}
+use Rattle.pair_core.specs.Core.{Core, Slot, Home, Out, IsMarker, IsWatcher, is_mark, times}
 use Rattle.pair_core.specs.Moves.{first_word, first_state}
 use Rattle.pair_core.specs.Sound.{Sound}
 use Rattle.pair_core.specs.State.{word_count, ListsWords}
@@ -20,7 +20,7 @@ use Rattle.pair_core.specs.declared.view.RecvSide.{RecvSide}
 use Rattle.pair_core.specs.declared.view.Life.TheVariants.{Blank, Live}
 use Rattle.pair_rule.specs.Buf.{Buf}
 use Rattle.pair_rule.specs.declared.view.View.{View}
-use Rattle.pair_rule.specs.declared.view.Standing.TheVariants.{Seated, Told}
+use Rattle.pair_rule.specs.declared.view.Standing.TheVariants.{Seated, Told, Closed}
 use Rattle.pair_rule.specs.declared.rule.Key.{Key}
 
 abbrev pub At : Type 0
@@ -120,6 +120,7 @@ module _ {T : Type 0} (may : T → ℕ → ℕ → ℕ → Type 0) where
         → b.bytes ≡ cell_bytes key.geometry (bytes (round_in (piece_word key.geometry core d c))) c
     pub seats : (i : ℕ) (d : View) → get_elem? s.views i ≡ some d → d.standing ≡ Seated → Agrees key.geometry core alone markers watchers seat i d
     pub notes : (i : ℕ) (d : View) → get_elem? s.views i ≡ some d → d.standing ≡ Told → Tells key.geometry core d
+    pub running : (i : ℕ) (d : View) → get_elem? s.views i ≡ some d → d.standing ≢ Closed
     pub first : alone ≡ true → IsFirst key.geometry core
     pub new : (n : ℕ) → ¬ Given alone markers watchers n → n ≢ 1 → core.life n ≡ Blank
     -- each seat of the core that has a view has it in the table
@@ -127,3 +128,33 @@ module _ {T : Type 0} (may : T → ℕ → ℕ → ℕ → Type 0) where
         → (d : View) × (get_elem? s.views (seat n) ≡ some d) × (d.standing ≡ Seated) × (d.number ≡ n)
     pub marks : (n : ℕ) (m : Mark (List ℕ)) → Contains (core.marks n) m → IsMarked key bytes m
     pub takes : (m : Mark (List ℕ)) → Contains core.takes m → m.with ≡ part_bytes key.geometry (bytes m.round) m.partition
+
+-- the bytes of the mark of a round and a partition in a list of marks
+abbrev pub bytes_of : List (Mark (List ℕ)) → ℕ → ℕ → List ℕ
+bytes_of [] k p = []
+bytes_of (m ∷ ms) k p = if is_mark k p m then m.with else bytes_of ms k p
+
+module _ {T : Type 0} (may : T → ℕ → ℕ → ℕ → Type 0) where
+  -- the view of a pair that was closed: each partition of each round was marked once, with bytes that may be, and of each round up to
+  -- the receiver's each partition was taken once, with the bytes that were marked there
+  pub record IsWhole (key : Key T) (words : List ℕ) (d : View) : Type 0 where
+    pub sent : round_in (slice_index words (number key.geometry (Claim 0))) ≡ d.send.round
+    pub received : round_in (slice_index words (number key.geometry Release)) ≡ d.recv.round
+    pub behind : d.recv.round ≤ d.send.round
+    pub all_marked : (k p : ℕ) → 1 ≤ k → k ≤ d.send.round → p < key.geometry.send_parts → times k p d.marks ≡ 1
+    pub only_marked : (k p : ℕ) → 1 ≤ times k p d.marks → (1 ≤ k) × (k ≤ d.send.round) × (p < key.geometry.send_parts)
+    pub may_be : (m : Mark (List ℕ)) → Contains d.marks m → MayMark may key m.round m.partition m.with
+    pub all_taken : (k q : ℕ) → 1 ≤ k → k ≤ d.recv.round → q < key.geometry.recv_parts → times k q d.takes ≡ 1
+    pub only_taken : (k q : ℕ) → 1 ≤ times k q d.takes → (1 ≤ k) × (k ≤ d.recv.round) × (q < key.geometry.recv_parts)
+    pub takes_are : (t : Mark (List ℕ)) → Contains d.takes t → t.with ≡ part_bytes key.geometry (bytes_of d.marks t.round) t.partition
+
+  -- the table of a pair that was closed: no seat steps any more
+  pub record Ended (key : Key T) (s : At) : Type 0 where
+    pub over : (i : ℕ) (d : View) → get_elem? s.views i ≡ some d → d.standing ≢ Seated
+    pub size : length s.words ≡ word_count key.geometry
+    pub shape : IsShape key.geometry
+    pub whole : (i : ℕ) (d : View) → get_elem? s.views i ≡ some d → d.standing ≡ Closed → IsWhole key s.words d
+
+  -- the rule of the table, of a running pair or of one that was closed
+  abbrev pub Holds : Key T → At → Type 0
+  Holds key s = Rule may key s ⊎ Ended key s

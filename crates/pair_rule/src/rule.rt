@@ -22,10 +22,10 @@ pub struct Ruled<C> {
 }
 
 impl<C: Content> TableRule<Option<CellBuf>, View, Key<C::Tag>> for Ruled<C> {
-    ghost use Rattle.pair_rule.specs.Rule.{Rule};
+    ghost use Rattle.pair_rule.specs.Rule.{Holds};
     ghost use Rattle.pair_rule.specs.First.{first_view};
 
-    ghost holds = { λ key s. Rule C.may key s };
+    ghost holds = { λ key s. Holds C.may key s };
 
     ghost first = { λ key. first_view key.geometry };
 }

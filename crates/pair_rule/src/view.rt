@@ -12,6 +12,8 @@ pub enum Standing {
     Told,
     /// One that was joined into another.
     Spent,
+    /// That of a pair that was closed: it has what both sides had.
+    Closed,
 }
 
 /// What a seat knows, as contracts see it. No value of it is made.
