@@ -4,3 +4,4 @@ pub mod First
 pub mod Told
 pub mod Rule
 pub mod Steps
+pub mod Seats

@@ -3,10 +3,17 @@
 
 mod buf;
 mod content;
+mod pair;
+mod plays;
 mod rule;
+mod seats;
+mod send;
 mod view;
+mod words;
 
 pub use buf::CellBuf;
 pub use content::{AnyBytes, Content};
+pub use pair::Pair;
 pub use rule::{Key, Ruled};
+pub use seats::{MarkSeat, Note, RecvSeat, SendSeat, Shelf, WatchSeat};
 pub use view::{Standing, View};

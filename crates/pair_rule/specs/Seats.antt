@@ -1,0 +1,77 @@
+-- A pair and its seats, as callers see them.
+use Rattle.std.specs.Prelude.{◌≡◌, ℕ, ◌+◌, ◌-◌, ◌*◌, ◌/◌, ◌%◌, ◌<◌, ◌≤◌, Bool, true, false, List, [], ◌∷◌, length, map, Option, Some, None}
+use mathlib.Core.Option.{some}
+use lib.ListN.{get_elem?}
+use Rattle.atomic_table.specs.Seated.{TableId}
+use Rattle.part_geometry.specs.Shape.{Shape}
+use Rattle.part_geometry.specs.Cells.{cells, recv_of}
+use Rattle.part_tables.specs.Parts.{first_received}
+use Rattle.pair_core.specs.Names.{Take, Return, take_words}
+use Rattle.pair_core.specs.Reading.{part_bit}
+use Rattle.pair_core.specs.Moves.{IsRecvActive}
+use Rattle.slot_rows.specs.declared.lane.Lane.{Lane}
+use Rattle.slot_rows.specs.Lanes.{wide, place}
+use Rattle.pair_rule.specs.Buf.{Buf}
+use Rattle.pair_rule.specs.Views.{seen}
+use Rattle.pair_rule.specs.declared.view.View.{View}
+use Rattle.pair_rule.specs.declared.rule.Key.{Key}
+
+-- a pair: its table, its geometry and its tag
+pub record PairOf (T : Type 0) : Type 0 where
+  pub table : TableId
+  pub key : Key T
+
+-- a seat with no slots: its table, and what it knows
+pub record Held : Type 0 where
+  pub table : TableId
+  pub view : View
+
+-- a marking seat also has the slots that are out with it: so many, numbered from the first on, each with its buffer or
+-- empty
+pub record MarkHeld : Type 0 where
+  pub table : TableId
+  pub view : View
+  pub first : ℕ
+  pub out : List (Option Buf)
+
+-- the values of some slots
+abbrev pub values : {S : Type 0} → List (ℕ × S) → List S
+values [] = []
+values (x ∷ xs) = x.1 ∷ values xs
+
+-- buffers, and how many there is room for
+pub record Room : Type 0 where
+  pub bufs : List Buf
+  pub room : ℕ
+
+-- The receive seat has a lane for each receive partition, and the slots of the lanes that are out, in their order; and an empty
+-- vector with room for the buffers of each partition, where it hasn't been taken out.
+pub record RecvHeld : Type 0 where
+  pub table : TableId
+  pub view : View
+  pub lanes : List Lane
+  pub slots : List (ℕ × Option Buf)
+  pub shelves : List (Option Room)
+
+abbrev pub flag : Bool → ℕ
+flag true = 1
+flag false = 0
+
+-- The lane of receive partition q: its cells, whether it was taken in the round of its take word, and whether its slots are out, which
+-- is only while the side is active.
+pub record IsLane (d : View) (q : ℕ) (l : Lane) : Type 0 where
+  pub first : l.first ≡ first_received d.geometry q
+  pub count : l.count ≡ first_received d.geometry (q + 1) - first_received d.geometry q
+  pub taken : part_bit (λ t. seen d (Take t)) q ≡ flag l.taken
+  pub out : IsRecvActive d.geometry d.recv → part_bit (λ t. seen d (Return t)) q + flag l.out ≡ flag l.taken
+  pub home : ¬ IsRecvActive d.geometry d.recv → l.out ≡ false
+
+-- n: how many slots are out with the seat
+pub record AreLanes (d : View) (n : ℕ) (ls : List Lane) : Type 0 where
+  pub parts : length ls ≡ d.geometry.recv_parts
+  pub total : n ≡ wide ls
+  pub each : (q : ℕ) (l : Lane) → get_elem? ls q ≡ some l → IsLane d q l
+
+-- a seat or a note belongs to a pair
+abbrev pub IsOf : {T : Type 0} → TableId → View → PairOf T → Type 0
+IsOf table d pair = (table ≡ pair.table) × (d.geometry ≡ pair.key.geometry)

@@ -1,0 +1,70 @@
+//! The numbers of the words of a pair.
+
+ghost use Rattle.std.specs.Prelude.{◌≡◌, ◌<◌, ◌≤◌};
+ghost use Rattle.part_geometry.specs.Pieces.{pieces};
+ghost use Rattle.pair_core.specs.Names.{Claim, Release, Take, Return, Piece, claim_words, take_words, number};
+ghost use Rattle.pair_core.specs.State.{word_count};
+
+use part_tables::Tables;
+
+/// How many claim words there are.
+pub(crate) fn claim_words(tables: &Tables) -> usize
+    ensures value { result ≡ claim_words tables.now }
+    ensures limits { result ≤ 32 }
+{
+    (tables.geometry().send_parts() as usize).div_ceil(32)
+}
+
+/// How many take words there are, and as many return words.
+pub(crate) fn take_words(tables: &Tables) -> usize
+    ensures value { result ≡ take_words tables.now }
+    ensures limits { result ≤ 32 }
+{
+    (tables.geometry().recv_parts() as usize).div_ceil(32)
+}
+
+/// The number of claim word `c`.
+pub(crate) fn claim_word(tables: &Tables, c: usize) -> usize
+    requires { c < claim_words tables.now }
+    ensures value { result ≡ number tables.now (Claim c) }
+    ensures inside { result < word_count tables.now }
+{
+    let _geometry = tables.geometry();
+    c
+}
+
+/// The number of the release word.
+pub(crate) fn release_word(tables: &Tables) -> usize
+    ensures value { result ≡ number tables.now Release }
+    ensures inside { result < word_count tables.now }
+{
+    claim_words(tables)
+}
+
+/// The number of take word `t`.
+pub(crate) fn take_word(tables: &Tables, t: usize) -> usize
+    requires { t < take_words tables.now }
+    ensures value { result ≡ number tables.now (Take t) }
+    ensures inside { result < word_count tables.now }
+{
+    claim_words(tables) + 1 + t
+}
+
+/// The number of return word `t`.
+pub(crate) fn return_word(tables: &Tables, t: usize) -> usize
+    requires { t < take_words tables.now }
+    ensures value { result ≡ number tables.now (Return t) }
+    ensures inside { result < word_count tables.now }
+{
+    claim_words(tables) + 1 + take_words(tables) + t
+}
+
+/// The number of the word of piece `i` at a place.
+pub(crate) fn piece_word(tables: &Tables, place: usize, i: usize) -> usize
+    requires place { place < tables.now.depth }
+    requires piece { i < pieces tables.now }
+    ensures value { result ≡ number tables.now (Piece place i) }
+    ensures inside { result < word_count tables.now }
+{
+    claim_words(tables) + 1 + 2 * take_words(tables) + (place * tables.pieces() + i)
+}
