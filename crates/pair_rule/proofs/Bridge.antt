@@ -63,7 +63,7 @@ others_agree g c c' alone markers watchers seat i n e o other a = record {
 }
 
 -- while the send side is alone the receive side's number isn't given
-one_not_alone : (alone : Bool) (markers watchers n : ℕ) → alone ≡ true → n ≡ 1 → ¬ Given alone markers watchers n
+pub one_not_alone : (alone : Bool) (markers watchers n : ℕ) → alone ≡ true → n ≡ 1 → ¬ Given alone markers watchers n
 one_not_alone alone markers watchers n is e (inl z) = absurd (omega arith)
 one_not_alone alone markers watchers n is e (inr (inl z)) = let no = z.1 in absurd (cc)
 one_not_alone alone markers watchers n is e (inr (inr (inl z))) = let low = z.0.0 in absurd (omega arith)
@@ -131,6 +131,7 @@ module _ {T : Type 0} (may : T → ℕ → ℕ → ℕ → Type 0) (key : Key T)
               marks = sym (others.marks 1 other') ∙ b.marks;
               takes = sym (others.takes other) ∙ b.takes;
             };
+          unwatched = r.unwatched;
           new = λ n not one. others.life n ∙ r.new n not one;
           here = λ n alive born. let b = r.here n (sym (others.life n) ∙ alive) born in
               dite (ℕ_discrete (r.seat n) id)

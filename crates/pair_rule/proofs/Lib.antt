@@ -10,3 +10,5 @@ pub mod Claiming
 pub mod Laying
 pub mod Taking
 pub mod Returning
+pub mod FirstFacts
+pub mod Splitting

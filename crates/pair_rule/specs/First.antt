@@ -1,5 +1,5 @@
 -- Views as they are made, and how two become one.
-use Rattle.std.specs.Prelude.{◌≡◌, ℕ, zero, suc, ◌+◌, ◌-◌, ◌*◌, Bool, true, false, List, [], ◌++◌, map, replicate, Option, Some, None}
+use Rattle.std.specs.Prelude.{◌≡◌, ℕ, ◌+◌, ◌-◌, ◌*◌, ◌%◌, Bool, true, false, if◌then◌else◌, nat_lt, List, [], ◌++◌, map, replicate, Option, Some, None}
 use Rattle.std.specs.List.{range_with_len}
 use Rattle.part_geometry.specs.Shape.{Shape}
 use Rattle.part_geometry.specs.Pieces.{pieces, need}
@@ -13,21 +13,19 @@ use Rattle.pair_rule.specs.Views.{told}
 use Rattle.pair_rule.specs.declared.view.View.{View}
 use Rattle.pair_rule.specs.declared.view.Standing.TheVariants.{Seated, Told, Spent}
 
--- n words, the i-th as f says
-abbrev pub words_by : (ℕ → ℕ) → ℕ → List ℕ
-words_by f n = map f (range_with_len 0 n)
-
--- the piece words of n places
-abbrev pub first_pieces : Shape → ℕ → List ℕ
-first_pieces g zero = []
-first_pieces g (suc n) = words_by (λ i. word_of 0 false (need g i)) (pieces g) ++ first_pieces g n
+-- the word with a number before the first step: claim words, the release word, take words, return words, and the piece words of
+-- each place
+abbrev pub first_at : Shape → ℕ → ℕ
+first_at g n =
+    if nat_lt n (claim_words g) then word_of 0 true (part_mask g.send_parts n) else (
+    if nat_lt n (claim_words g + 1) then word_of 0 false 0 else (
+    if nat_lt n (claim_words g + 1 + take_words g) then word_of 0 false (part_mask g.recv_parts (n - (claim_words g + 1))) else (
+    if nat_lt n (claim_words g + 1 + 2 * take_words g) then word_of 0 false (part_mask g.recv_parts (n - (claim_words g + 1 + take_words g))) else
+    word_of 0 false (need g ((n - (claim_words g + 1 + 2 * take_words g)) % pieces g)))))
 
 -- the words before the first step, in order
 unfoldable pub first_words : Shape → List ℕ
-first_words g =
-    words_by (λ c. word_of 0 true (part_mask g.send_parts c)) (claim_words g) ++ (words_by (λ _. word_of 0 false 0) 1
-    ++ (words_by (λ t. word_of 0 false (part_mask g.recv_parts t)) (take_words g)
-    ++ (words_by (λ t. word_of 0 false (part_mask g.recv_parts t)) (take_words g) ++ first_pieces g g.depth)))
+first_words g = map (first_at g) (range_with_len 0 (word_count g))
 
 -- a view of the seat n that has seen these words and did nothing
 abbrev pub fresh : Shape → ℕ → List ℕ → View

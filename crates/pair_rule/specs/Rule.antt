@@ -122,6 +122,7 @@ module _ {T : Type 0} (may : T → ℕ → ℕ → ℕ → Type 0) where
     pub notes : (i : ℕ) (d : View) → get_elem? s.views i ≡ some d → d.standing ≡ Told → Tells key.geometry core d
     pub running : (i : ℕ) (d : View) → get_elem? s.views i ≡ some d → d.standing ≢ Closed
     pub first : alone ≡ true → IsFirst key.geometry core
+    pub unwatched : alone ≡ true → watchers ≡ 0
     pub new : (n : ℕ) → ¬ Given alone markers watchers n → n ≢ 1 → core.life n ≡ Blank
     -- each seat of the core that has a view has it in the table
     pub here : (n : ℕ) → core.life n ≡ Live → (n ≡ 1 → alone ≡ false)
