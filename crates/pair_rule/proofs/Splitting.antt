@@ -469,7 +469,7 @@ module _ {T : Type 0} (may : T → ℕ → ℕ → ℕ → Type 0) (key : Key T)
       let views' : List View = set s.views id d in
       let split : (i : ℕ) (f : View) → get_elem? (views' ++ e ∷ []) i ≡ some f → (get_elem? s.views i ≡ some f) ⊎ (e ≡ f) = λ i f is. ⊎_elim
         (λ (u : get_elem? views' i ≡ some f). ⊎_elim
-          (λ (v : (i ≡ id) × (d ≡ f)). inl (ap (get_elem? s.views) v.0 ∙ (at ∙ ap (some {A = View}) v.1)))
+          (λ (v : (i ≡ id) × (d ≡ f)). inl (ap (get_elem? s.views) v.0 ∙ (at ∙ ap (λ (z : View). some z) v.1)))
           (λ (v : (i ≢ id) × (get_elem? s.views i ≡ some f)). inl v.1)
           (at_set s.views id i d f u))
         (λ (u : (i ≡ length views') × (e ≡ f)). inr u.1)
@@ -499,7 +499,7 @@ module _ {T : Type 0} (may : T → ℕ → ℕ → ℕ → Type 0) (key : Key T)
           (b.0, at_front views' e b.0 (r.seat m) (dite (ℕ_discrete (r.seat m) id)
             (λ is. let at' : get_elem? s.views id ≡ some b.0 = ap (get_elem? s.views) (sym is) ∙ b.1 in
               let eq : d ≡ b.0 = some-injective d b.0 (sym at ∙ at') in
-              ap (get_elem? views') is ∙ (set_here s.views id d (at_split s.views id d at).0 ∙ ap (some {A = View}) eq))
+              ap (get_elem? views') is ∙ (set_here s.views id d (at_split s.views id d at).0 ∙ ap (λ (z : View). some z) eq))
             (λ far. set_else s.views id (r.seat m) d far ∙ b.1)), b.2, b.3);
         marks = r.marks;
         takes = r.takes;
