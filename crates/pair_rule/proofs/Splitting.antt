@@ -101,7 +101,7 @@ pub record Grown (c c' : Shown) (n : ℕ) : Type 0 where
   pub takes : c'.takes ≡ c.takes
 
 -- the receive side was made
-beside : (alone : Bool) (markers watchers n : ℕ) → n ≡ 1 → Given alone markers watchers n → alone ≡ false
+pub beside : (alone : Bool) (markers watchers n : ℕ) → n ≡ 1 → Given alone markers watchers n → alone ≡ false
 beside true markers watchers n e given = absurd (one_not_alone true markers watchers n refl e given)
 beside false markers watchers n e given = refl
 

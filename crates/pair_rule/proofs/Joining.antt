@@ -1,0 +1,322 @@
+-- A seat is joined into its side: the side's view rises to what both have seen, and the core's join gives it the other's marks.
+use Rattle.std.proofs.Common.{◌≡◌, ◌≢◌, ◌⊎◌, inl, inr, ⊎_elim, ℕ, zero, suc, ◌+◌, ◌-◌, ◌*◌, ◌%◌, ◌<◌, ◌≤◌, Bool, true, false, ◌==◌, List, [], ◌∷◌, ◌++◌, length, get_or, set, Contains, Option, Some, None, refl, sym, ap, ◌∙◌, subst, arith, length-set}
+use Rattle.std.proofs.lemmas.Bool.{eq-eqb, ne_eqb}
+use mathlib.Core.Logic.{dite}
+use mathlib.Core.Option.{some, some-injective}
+use native.Mathlib.Decide.{ℕ_discrete}
+use lib.ListN.{get_elem?}
+use Rattle.gate_word.specs.Order.{IsLater, join_of, IsLeastAbove, IsJoin}
+use Rattle.gate_word.specs.Words.{round_in}
+use Rattle.atomic_table.specs.Table.{State, Joins}
+use Rattle.atomic_table.proofs.Lists.{at_set, set_here, set_else}
+use Rattle.part_geometry.specs.Shape.{Shape, IsShape}
+use Rattle.part_geometry.specs.Pieces.{piece_of}
+use Rattle.part_tables.specs.Bytes.{cell_bytes}
+use Rattle.pair_core.specs.Names.{Name, Claim, Release, Take, Return, Piece, Fits, number, put, put_word}
+use Rattle.pair_core.specs.Core.{Core, IsMarker, IsWatcher}
+use Rattle.pair_core.specs.Steps.{rises, marker_less, watcher_less}
+use Rattle.pair_core.specs.Moves.{Move, Rise, Join, IsAllowed, after, joined, first_word}
+use Rattle.pair_core.specs.Sound.{HasRound, Sound}
+use Rattle.pair_core.specs.State.{word_count, ListsWords}
+use Rattle.pair_core.specs.declared.view.Mark.{Mark}
+use Rattle.pair_core.specs.declared.view.Pending.{Pending}
+use Rattle.pair_core.specs.declared.view.SendSide.{SendSide}
+use Rattle.pair_core.specs.declared.view.RecvSide.{RecvSide}
+use Rattle.pair_core.specs.declared.view.Life.{Life}
+use Rattle.pair_core.specs.declared.view.Life.TheVariants.{Blank, Live, Spent}
+use Rattle.pair_core.proofs.Facts.{put_here, put_else, put_cases, any_word, number_lt}
+use Rattle.slot_rows.proofs.Lists.{at_split}
+use Rattle.pair_rule.specs.Rule.{At, Shown, slot_number, Stands, Given, Agrees, Tells, Rule, Holds}
+use Rattle.pair_rule.specs.First.{spent, with_marker_back, with_watcher_back}
+use Rattle.pair_rule.specs.Views.{joined_words}
+use Rattle.pair_rule.specs.declared.view.View.{View}
+use Rattle.pair_rule.specs.declared.view.Standing.TheVariants as stand
+use Rattle.pair_rule.specs.declared.rule.Key.{Key}
+use Rattle.pair_rule.proofs.Core.{CoreLaws}
+use Rattle.pair_rule.proofs.Splitting.{risen, risen_here, risen_else, beside}
+use Rattle.pair_rule.proofs.SideSteps.{of_running}
+
+pub joined_length : (vs ws : List ℕ) → length vs ≡ length ws → length (joined_words vs ws) ≡ length vs
+joined_length [] ws e = refl
+joined_length (v ∷ vs) [] e = refl
+joined_length (v ∷ vs) (w ∷ ws) e = ap suc (joined_length vs ws (omega arith))
+
+pub joined_at : (vs ws : List ℕ) (i : ℕ) → length vs ≡ length ws → i < length vs → get_or (joined_words vs ws) i 0 ≡ join_of (get_or vs i 0) (get_or ws i 0)
+joined_at [] ws i e inside = absurd (omega arith)
+joined_at (v ∷ vs) [] i e inside = absurd (omega arith)
+joined_at (v ∷ vs) (w ∷ ws) zero e inside = refl
+joined_at (v ∷ vs) (w ∷ ws) (suc i) e inside = joined_at vs ws i (omega arith) (omega arith)
+
+in_both : {A : Type 0} (xs ys : List A) (a : A) → Contains (xs ++ ys) a → Contains xs a ⊎ Contains ys a
+in_both [] ys a h = inr h
+in_both (x ∷ xs) ys a (zero, inside, at) = inl (zero, omega arith, at)
+in_both (x ∷ xs) ys a (suc k, inside, at) = ⊎_elim (λ (l : Contains xs a). let low = l.1 in inl (suc l.0, omega arith, l.2)) (λ r. inr r) (in_both xs ys a (k, omega arith, at))
+
+none_in : {A : Type 0} (a : A) → ¬ Contains [] a
+none_in a (k, inside, at) = absurd (omega arith)
+
+-- the seat n is gone from the core, and of the others the seat `of` has another view
+pub record Gone (c c' : Shown) (of n : ℕ) : Type 0 where
+  pub word : (x : Name) → c'.word x ≡ c.word x
+  pub slot : (e i : ℕ) → c'.slot e i ≡ c.slot e i
+  pub life_gone : c'.life n ≡ Spent
+  pub life : (m : ℕ) → m ≢ n → c'.life m ≡ c.life m
+  pub seen : (m : ℕ) → m ≢ n → m ≢ of → (x : Name) → c.seen m x ≡ c'.seen m x
+  pub looks : (m : ℕ) → m ≢ n → m ≢ of → (x : Name) → c.looks m x ≡ c'.looks m x
+  pub pending : (m : ℕ) → c'.pending m ≡ c.pending m
+  pub marks : (m : ℕ) → m ≢ n → m ≢ of → c'.marks m ≡ c.marks m
+  pub marked : (m : ℕ) (k : Mark (List ℕ)) → Contains (c'.marks m) k → (j : ℕ) × Contains (c.marks j) k
+  pub takes : c'.takes ≡ c.takes
+
+module _ {T : Type 0} (may : T → ℕ → ℕ → ℕ → Type 0) (key : Key T) where
+  abbrev G : Shape
+  G = key.geometry
+
+  -- the table after the view at `other` was joined into that at id
+  takes_in : (s : At) (r : Rule may key s) (id other n : ℕ) (d both e : View) (c' : Shown)
+      → get_elem? s.views id ≡ some d → d.standing ≡ stand.Seated → both.standing ≡ stand.Seated → both.number ≡ d.number
+      → other ≢ id → get_elem? s.views other ≡ some e → e.standing ≡ stand.Seated → e.number ≡ n
+      → Sound G c' → Gone r.core c' d.number n
+      → (d.number ≢ 0 → r.core.send ≡ c'.send) → (d.number ≢ 1 → r.core.recv ≡ c'.recv) → r.alone ≡ false
+      → Agrees G c' r.alone r.markers r.watchers r.seat id both
+      → Rule may key record { words = s.words; homes = s.homes; views = set (set s.views id both) other spent }
+  takes_in s r id other n d both e c' at live live' same far there live'' numbered sound gone send recv company mine =
+      let a = r.seats id d at live in
+      let b = r.seats other e there live'' in
+      let at_other : r.seat n ≡ other = ap r.seat (sym numbered) ∙ b.seat_is in
+      let keep : (i : ℕ) (f : View) → Agrees G r.core r.alone r.markers r.watchers r.seat i f → f.number ≢ d.number → f.number ≢ n → Agrees G c' r.alone r.markers r.watchers r.seat i f = λ i f k o m.
+        record {
+          geometry = k.geometry;
+          seat_is = k.seat_is;
+          given = k.given;
+          live = gone.life f.number m ∙ k.live;
+          seen_size = k.seen_size;
+          looks_size = k.looks_size;
+          seen_is = λ x fits. k.seen_is x fits ∙ gone.seen f.number m o x;
+          looks_is = λ x fits. k.looks_is x fits ∙ gone.looks f.number m o x;
+          pending_is = k.pending_is ∙ sym (gone.pending f.number);
+          marks_is = k.marks_is ∙ sym (gone.marks f.number m o);
+          send_is = λ z. k.send_is z ∙ send (λ w. o (z ∙ sym w));
+          markers_is = k.markers_is;
+          recv_is = λ z. k.recv_is z ∙ recv (λ w. o (z ∙ sym w));
+          takes_is = λ z. k.takes_is z ∙ sym gone.takes;
+          watchers_is = k.watchers_is;
+        } in
+      let same_words : c'.word ≡ r.core.word = λ j x. gone.word x j in
+      let views' : List View = set s.views id both in
+      let which : (i : ℕ) (f : View) → get_elem? (set views' other spent) i ≡ some f → (spent ≡ f) ⊎ ((i ≡ id) × (both ≡ f)) ⊎ ((i ≢ id) × (i ≢ other) × (get_elem? s.views i ≡ some f)) = λ i f is. ⊎_elim
+        (λ (u : (i ≡ other) × (spent ≡ f)). inl u.1)
+        (λ (u : (i ≢ other) × (get_elem? views' i ≡ some f)). ⊎_elim (λ (v : (i ≡ id) × (both ≡ f)). inr (inl v)) (λ (v : (i ≢ id) × (get_elem? s.views i ≡ some f)). inr (inr (v.0, u.0, v.1))) (at_set s.views id i both f u.1))
+        (at_set views' other i spent f is) in
+      record {
+        core = c';
+        seat = r.seat;
+        alone = r.alone;
+        markers = r.markers;
+        watchers = r.watchers;
+        bytes = r.bytes;
+        shape = r.shape;
+        sound = sound;
+        size = r.size;
+        room = r.room;
+        words = λ x fits. r.words x fits ∙ sym (gone.word x);
+        slots = λ f i deep inside. subst (Stands G i (get_elem? s.homes (slot_number G f i))) (sym (gone.slot f i)) (r.slots f i deep inside);
+        kept = λ f i b deep inside home. subst (λ (w : Name → ℕ). HasRound G (λ t. w (Return t)) (w (Piece f (piece_of G i))) i → 1 ≤ round_in (w (Piece f (piece_of G i)))
+            → b.bytes ≡ cell_bytes G (r.bytes (round_in (w (Piece f (piece_of G i))))) i) (sym same_words) (r.kept f i b deep inside home);
+        seats = λ i f is alive. ⊎_elim
+            (λ (u : spent ≡ f). let no : spent.standing ≡ stand.Seated = ap (λ (z : View). z.standing) u ∙ alive in absurd (cc))
+            (λ (y : ((i ≡ id) × (both ≡ f)) ⊎ ((i ≢ id) × (i ≢ other) × (get_elem? s.views i ≡ some f))). ⊎_elim
+              (λ (u : (i ≡ id) × (both ≡ f)). subst (λ (z : ℕ × View). Agrees G c' r.alone r.markers r.watchers r.seat z.0 z.1) (λ j. (sym u.0 j, u.1 j)) mine)
+              (λ (u : (i ≢ id) × (i ≢ other) × (get_elem? s.views i ≡ some f)). let k = r.seats i f u.2 alive in
+                keep i f k (λ z. u.0 (sym k.seat_is ∙ (ap r.seat z ∙ a.seat_is))) (λ z. u.1 (sym k.seat_is ∙ (ap r.seat z ∙ at_other)))) y)
+            (which i f is);
+        notes = λ i f is told. ⊎_elim
+            (λ (u : spent ≡ f). let no : spent.standing ≡ stand.Told = ap (λ (z : View). z.standing) u ∙ told in absurd (cc))
+            (λ (y : ((i ≡ id) × (both ≡ f)) ⊎ ((i ≢ id) × (i ≢ other) × (get_elem? s.views i ≡ some f))). ⊎_elim
+              (λ (u : (i ≡ id) × (both ≡ f)). let no : both.standing ≡ stand.Told = ap (λ (z : View). z.standing) u.1 ∙ told in absurd (cc))
+              (λ (u : (i ≢ id) × (i ≢ other) × (get_elem? s.views i ≡ some f)). let k = r.notes i f u.2 told in
+                record { geometry = k.geometry; seen_size = k.seen_size; seen_is = λ x fits. subst (IsLater (get_or f.seen (number G x) 0)) (sym (gone.word x)) (k.seen_is x fits) }) y)
+            (which i f is);
+        running = λ i f is closed. ⊎_elim
+            (λ (u : spent ≡ f). let no : spent.standing ≡ stand.Closed = ap (λ (z : View). z.standing) u ∙ closed in absurd (cc))
+            (λ (y : ((i ≡ id) × (both ≡ f)) ⊎ ((i ≢ id) × (i ≢ other) × (get_elem? s.views i ≡ some f))). ⊎_elim
+              (λ (u : (i ≡ id) × (both ≡ f)). let no : both.standing ≡ stand.Closed = ap (λ (z : View). z.standing) u.1 ∙ closed in absurd (cc))
+              (λ (u : (i ≢ id) × (i ≢ other) × (get_elem? s.views i ≡ some f)). r.running i f u.2 closed) y)
+            (which i f is);
+        first = λ is. absurd (cc);
+        unwatched = λ is. absurd (cc);
+        new = λ m not one. let o : m ≢ n = λ is. not (subst (Given r.alone r.markers r.watchers) (numbered ∙ sym is) b.given) in gone.life m o ∙ r.new m not one;
+        here = λ m alive reached.
+            let o : m ≢ n = λ is. let w = gone.life_gone in let w' : c'.life n ≡ Live = ap c'.life (sym is) ∙ alive in absurd (cc) in
+            let h = r.here m (sym (gone.life m o) ∙ alive) reached in
+            let away : r.seat m ≢ other = λ is.
+              let at' : get_elem? s.views other ≡ some h.0 = ap (get_elem? s.views) (sym is) ∙ h.1 in
+              let eq : e ≡ h.0 = some-injective e h.0 (sym there ∙ at') in
+              o (sym h.3 ∙ (ap (λ (z : View). z.number) (sym eq) ∙ numbered)) in
+            dite (ℕ_discrete (r.seat m) id)
+              (λ is. let at' : get_elem? s.views id ≡ some h.0 = ap (get_elem? s.views) (sym is) ∙ h.1 in
+                let eq : d ≡ h.0 = some-injective d h.0 (sym at ∙ at') in
+                (both, ap (get_elem? (set views' other spent)) is ∙ (set_else views' other id spent (λ z. far (sym z)) ∙ set_here s.views id both (at_split s.views id d at).0), live',
+                same ∙ (ap (λ (z : View). z.number) eq ∙ h.3)))
+              (λ apart. (h.0, set_else views' other (r.seat m) spent away ∙ (set_else s.views id (r.seat m) both apart ∙ h.1), h.2, h.3));
+        marks = λ m k h. let j = gone.marked m k h in r.marks j.0 k j.1;
+        takes = λ k h. r.takes k (subst (λ (z : List (Mark (List ℕ))). Contains z k) gone.takes h);
+      }
+
+  -- the side `of` is told what the seat n has seen
+  module _ (L : CoreLaws G) (J : IsJoin) (c : Shown) (sound : Sound G c) (of n : ℕ) (alive : c.life of ≡ Live) (known : c.life n ≡ Live) where
+    abbrev w : Name → ℕ
+    w = risen G (λ x. join_of (c.seen of x) (c.seen n x)) (c.seen of)
+
+    abbrev told : Shown
+    told = rises of w 0 c
+
+    now : (m : ℕ) → c.life m ≡ Live → c.life m ≢ Spent
+    now m live gone = absurd (cc)
+
+    told_sound : Sound G told
+    told_sound = L.kept c (Rise of w 0) sound (
+        alive,
+        λ x fits. let here : w x ≡ join_of (c.seen of x) (c.seen n x) = risen_here G (λ y. join_of (c.seen of y) (c.seen n y)) (c.seen of) x fits in
+          let least = J.least (c.seen of x) (c.seen n x) in (
+            subst (IsLater (c.seen of x)) (sym here) least.first,
+            subst (λ (z : ℕ). IsLater z (c.word x)) (sym here) (least.least (c.word x) (sound.seen.present of x (now of alive) fits) (sound.seen.present n x (now n known) fits)),
+          ),
+        omega arith,
+        λ x fits. risen_else G (λ y. join_of (c.seen of y) (c.seen n y)) (c.seen of) x fits,
+      )
+
+    told_sees : (x : Name) → Fits G x → told.seen of x ≡ join_of (c.seen of x) (c.seen n x)
+    told_sees x fits = ap (λ (f : Name → ℕ). f x) (put_here c.seen of w) ∙ risen_here G (λ y. join_of (c.seen of y) (c.seen n y)) (c.seen of) x fits
+
+    told_seen_else : (m : ℕ) → m ≢ of → (x : Name) → told.seen m x ≡ c.seen m x
+    told_seen_else m o x = ap (λ (f : Name → ℕ). f x) (put_else c.seen of w m o)
+
+    told_looks_else : (m : ℕ) → m ≢ of → (x : Name) → told.looks m x ≡ c.looks m x
+    told_looks_else m o x = ap (λ (f : Name → ℕ). f x) (put_else c.looks of (put_word (Claim 0) (c.looks of (Claim 0) + 0) (c.looks of)) m o)
+
+    told_looks : (x : Name) → told.looks of x ≡ c.looks of x
+    told_looks x = ap (λ (f : Name → ℕ). f x) (put_here c.looks of (put_word (Claim 0) (c.looks of (Claim 0) + 0) (c.looks of)))
+        ∙ any_word (Claim 0) x (c.looks of (Claim 0) + 0) (c.looks of) (λ y v. v ≡ c.looks of y) (omega arith) (λ y. refl)
+
+  -- a watcher has no claim
+  no_claim : CoreLaws G → (c : Shown) → Sound G c → (n : ℕ) → IsWatcher n → (o : Option Pending) → c.pending n ≡ o → c.pending n ≡ None
+  no_claim L c sound n watcher None e = e
+  no_claim L c sound n watcher (Some x) e = let f = L.facts in let p = f.pending_is c n x sound e in let even = p.3.1 in let odd = watcher.1 in absurd (omega arith)
+
+  no_pending : CoreLaws G → (c : Shown) → Sound G c → (n : ℕ) → IsWatcher n → c.pending n ≡ None
+  no_pending L c sound n watcher = no_claim L c sound n watcher (c.pending n) refl
+
+  -- a marker is joined into the send side
+  pub marker_joins : CoreLaws G → IsJoin → (id : ℕ) (d : View) (other : ℕ) (e : View) → d.standing ≡ stand.Seated → d.number ≡ 0 → d.alone ≡ false
+      → e.standing ≡ stand.Seated → IsMarker e.number → e.pending ≡ None
+      → Joins (Holds may key) id d other e (with_marker_back d e) spent
+  marker_joins L law id d other e live zeroth company live' marker none s h at far there =
+      let r = of_running may key L s h id d at live in
+      let there' : get_elem? s.views other ≡ some e = sym (set_else s.views id other (with_marker_back d e) far) ∙ there in
+      let a = r.seats id d at live in let b = r.seats other e there' live' in
+      let n : ℕ = e.number in
+      let alive : r.core.life 0 ≡ Live = r.sound.lives.send in
+      let t : Shown = told L law r.core r.sound 0 n alive b.live in
+      let sound1 = told_sound L law r.core r.sound 0 n alive b.live in
+      let c' : Shown = joined true G n t in
+      let sound2 : Sound G c' = subst (λ (z : Bool). Sound G (joined z G n t)) (eq-eqb (n % 2) 0 marker.1) (L.kept t (Join n) sound1 (marker.0, b.live, sym b.pending_is ∙ none)) in
+      let low : 2 ≤ n = marker.0 in
+      let n0 : n ≢ 0 = λ z. absurd (omega arith) in let o0 : 0 ≢ n = λ z. absurd (omega arith) in
+      let all : List (Mark (List ℕ)) = r.core.marks n ++ r.core.marks 0 in
+      let marks_of : c'.marks 0 ≡ all = put_else (put t.marks 0 (t.marks n ++ t.marks 0)) n [] 0 o0 ∙ put_here t.marks 0 (t.marks n ++ t.marks 0) in
+      let company' : r.alone ≡ false = sym (a.markers_is zeroth).1 ∙ company in
+      let gone : Gone r.core c' d.number n = record {
+        word = λ x. refl;
+        slot = λ f i. refl;
+        life_gone = put_here t.life n Spent;
+        life = λ m o. put_else t.life n Spent m o;
+        seen = λ m o p x. let p' : m ≢ 0 = λ z. p (z ∙ sym zeroth) in sym (ap (λ (f : Name → ℕ). f x) (put_else t.seen n (first_word G) m o) ∙ told_seen_else L law r.core r.sound 0 n alive b.live m p' x);
+        looks = λ m o p x. let p' : m ≢ 0 = λ z. p (z ∙ sym zeroth) in sym (ap (λ (f : Name → ℕ). f x) (put_else t.looks n (λ y. 0) m o) ∙ told_looks_else L law r.core r.sound 0 n alive b.live m p' x);
+        pending = λ m. refl;
+        marks = λ m o p. let p' : m ≢ 0 = λ z. p (z ∙ sym zeroth) in put_else (put t.marks 0 (t.marks n ++ t.marks 0)) n [] m o ∙ put_else t.marks 0 (t.marks n ++ t.marks 0) m p';
+        marked = λ m k held. dite (ℕ_discrete m n)
+          (λ is. absurd (none_in k (subst (λ (z : List (Mark (List ℕ))). Contains z k) (ap c'.marks is ∙ put_here (put t.marks 0 (t.marks n ++ t.marks 0)) n []) held)))
+          (λ o. dite (ℕ_discrete m 0)
+            (λ is. let both : Contains all k = subst (λ (z : List (Mark (List ℕ))). Contains z k) (ap c'.marks is ∙ marks_of) held in
+              ⊎_elim (λ x. (n, x)) (λ y. (0, y)) (in_both (r.core.marks n) (r.core.marks 0) k both))
+            (λ p. (m, subst (λ (z : List (Mark (List ℕ))). Contains z k) (put_else (put t.marks 0 (t.marks n ++ t.marks 0)) n [] m o ∙ put_else t.marks 0 (t.marks n ++ t.marks 0) m p) held)));
+        takes = refl;
+      } in
+      inl (takes_in s r id other n d (with_marker_back d e) e c' at live live refl far there' live' refl sound2 gone
+        (λ no. absurd (no zeroth)) (λ _. refl) company'
+        (record {
+          geometry = a.geometry;
+          seat_is = a.seat_is;
+          given = a.given;
+          live = put_else t.life n Spent d.number (λ z. absurd (omega arith)) ∙ a.live;
+          seen_size = joined_length d.seen e.seen (a.seen_size ∙ sym b.seen_size) ∙ a.seen_size;
+          looks_size = a.looks_size;
+          seen_is = λ x fits. joined_at d.seen e.seen (number G x) (a.seen_size ∙ sym b.seen_size) (subst (λ (z : ℕ). number G x < z) (sym a.seen_size) (number_lt G x fits))
+            ∙ (ap (λ (z : ℕ). join_of z (get_or e.seen (number G x) 0)) (a.seen_is x fits ∙ ap (λ (z : ℕ). r.core.seen z x) zeroth)
+            ∙ (ap (join_of (r.core.seen 0 x)) (b.seen_is x fits)
+            ∙ sym (ap (λ (z : ℕ). c'.seen z x) zeroth ∙ (ap (λ (f : Name → ℕ). f x) (put_else t.seen n (first_word G) 0 o0) ∙ told_sees L law r.core r.sound 0 n alive b.live x fits))));
+          looks_is = λ x fits. a.looks_is x fits ∙ (ap (λ (z : ℕ). r.core.looks z x) zeroth
+            ∙ sym (ap (λ (z : ℕ). c'.looks z x) zeroth ∙ (ap (λ (f : Name → ℕ). f x) (put_else t.looks n (λ y. 0) 0 o0) ∙ told_looks L law r.core r.sound 0 n alive b.live x)));
+          pending_is = a.pending_is;
+          marks_is = λ i. (ap (λ (z : List (Mark (List ℕ))). z ++ d.marks) b.marks_is ∙ (ap (λ (z : List (Mark (List ℕ))). r.core.marks n ++ z) (a.marks_is ∙ ap r.core.marks zeroth) ∙ sym (ap c'.marks zeroth ∙ marks_of))) i;
+          send_is = λ z. ap marker_less (a.send_is z);
+          markers_is = a.markers_is;
+          recv_is = a.recv_is;
+          takes_is = a.takes_is;
+          watchers_is = a.watchers_is;
+        }))
+
+  -- a watcher is joined into the receive side
+  pub watcher_joins : CoreLaws G → IsJoin → (id : ℕ) (d : View) (other : ℕ) (e : View) → d.standing ≡ stand.Seated → d.number ≡ 1
+      → e.standing ≡ stand.Seated → IsWatcher e.number
+      → Joins (Holds may key) id d other e (with_watcher_back d e) spent
+  watcher_joins L law id d other e live oneth live' watcher s h at far there =
+      let r = of_running may key L s h id d at live in
+      let there' : get_elem? s.views other ≡ some e = sym (set_else s.views id other (with_watcher_back d e) far) ∙ there in
+      let a = r.seats id d at live in let b = r.seats other e there' live' in
+      let n : ℕ = e.number in
+      let alive : r.core.life 1 ≡ Live = r.sound.lives.recv in
+      let t : Shown = told L law r.core r.sound 1 n alive b.live in
+      let sound1 = told_sound L law r.core r.sound 1 n alive b.live in
+      let c' : Shown = joined false G n t in
+      let odd = watcher.1 in
+      let sound2 : Sound G c' = subst (λ (z : Bool). Sound G (joined z G n t)) (ne_eqb (n % 2) 0 (λ z. omega arith)) (L.kept t (Join n) sound1 (watcher.0, b.live, no_pending L r.core r.sound n watcher)) in
+      let low : 2 ≤ n = watcher.0 in
+      let o1 : 1 ≢ n = λ z. absurd (omega arith) in
+      let company' : r.alone ≡ false = beside r.alone r.markers r.watchers d.number oneth a.given in
+      let gone : Gone r.core c' d.number n = record {
+        word = λ x. refl;
+        slot = λ f i. refl;
+        life_gone = put_here t.life n Spent;
+        life = λ m o. put_else t.life n Spent m o;
+        seen = λ m o p x. let p' : m ≢ 1 = λ z. p (z ∙ sym oneth) in sym (ap (λ (f : Name → ℕ). f x) (put_else t.seen n (first_word G) m o) ∙ told_seen_else L law r.core r.sound 1 n alive b.live m p' x);
+        looks = λ m o p x. let p' : m ≢ 1 = λ z. p (z ∙ sym oneth) in sym (ap (λ (f : Name → ℕ). f x) (put_else t.looks n (λ y. 0) m o) ∙ told_looks_else L law r.core r.sound 1 n alive b.live m p' x);
+        pending = λ m. refl;
+        marks = λ m o p. refl;
+        marked = λ m k held. (m, held);
+        takes = refl;
+      } in
+      inl (takes_in s r id other n d (with_watcher_back d e) e c' at live live refl far there' live' refl sound2 gone
+        (λ _. refl) (λ no. absurd (no oneth)) company'
+        (record {
+          geometry = a.geometry;
+          seat_is = a.seat_is;
+          given = a.given;
+          live = put_else t.life n Spent d.number (λ z. absurd (omega arith)) ∙ a.live;
+          seen_size = joined_length d.seen e.seen (a.seen_size ∙ sym b.seen_size) ∙ a.seen_size;
+          looks_size = a.looks_size;
+          seen_is = λ x fits. joined_at d.seen e.seen (number G x) (a.seen_size ∙ sym b.seen_size) (subst (λ (z : ℕ). number G x < z) (sym a.seen_size) (number_lt G x fits))
+            ∙ (ap (λ (z : ℕ). join_of z (get_or e.seen (number G x) 0)) (a.seen_is x fits ∙ ap (λ (z : ℕ). r.core.seen z x) oneth)
+            ∙ (ap (join_of (r.core.seen 1 x)) (b.seen_is x fits)
+            ∙ sym (ap (λ (z : ℕ). c'.seen z x) oneth ∙ (ap (λ (f : Name → ℕ). f x) (put_else t.seen n (first_word G) 1 o1) ∙ told_sees L law r.core r.sound 1 n alive b.live x fits))));
+          looks_is = λ x fits. a.looks_is x fits ∙ (ap (λ (z : ℕ). r.core.looks z x) oneth
+            ∙ sym (ap (λ (z : ℕ). c'.looks z x) oneth ∙ (ap (λ (f : Name → ℕ). f x) (put_else t.looks n (λ y. 0) 1 o1) ∙ told_looks L law r.core r.sound 1 n alive b.live x)));
+          pending_is = a.pending_is;
+          marks_is = a.marks_is;
+          send_is = λ z. absurd (omega arith);
+          markers_is = λ z. absurd (omega arith);
+          recv_is = λ z. ap watcher_less (a.recv_is z);
+          takes_is = a.takes_is;
+          watchers_is = a.watchers_is;
+        }))
