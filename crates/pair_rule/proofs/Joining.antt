@@ -29,11 +29,14 @@ use Rattle.slot_rows.proofs.Lists.{at_split}
 use Rattle.pair_rule.specs.Rule.{At, Shown, slot_number, Stands, Given, Agrees, Tells, Rule, Holds}
 use Rattle.pair_rule.specs.First.{spent, with_marker_back, with_watcher_back}
 use Rattle.pair_rule.specs.Views.{joined_words}
+use Rattle.pair_rule.specs.Views as view
 use Rattle.pair_rule.specs.declared.view.View.{View}
 use Rattle.pair_rule.specs.declared.view.Standing.TheVariants as stand
 use Rattle.pair_rule.specs.declared.rule.Key.{Key}
 use Rattle.pair_rule.proofs.Core.{CoreLaws}
+use Rattle.pair_rule.proofs.Bridge.{one_not_alone}
 use Rattle.pair_rule.proofs.Splitting.{risen, risen_here, risen_else, beside}
+use Rattle.pair_rule.proofs.Marks.{in_both, in_none}
 use Rattle.pair_rule.proofs.SideSteps.{of_running}
 
 pub joined_length : (vs ws : List ℕ) → length vs ≡ length ws → length (joined_words vs ws) ≡ length vs
@@ -46,14 +49,6 @@ joined_at [] ws i e inside = absurd (omega arith)
 joined_at (v ∷ vs) [] i e inside = absurd (omega arith)
 joined_at (v ∷ vs) (w ∷ ws) zero e inside = refl
 joined_at (v ∷ vs) (w ∷ ws) (suc i) e inside = joined_at vs ws i (omega arith) (omega arith)
-
-in_both : {A : Type 0} (xs ys : List A) (a : A) → Contains (xs ++ ys) a → Contains xs a ⊎ Contains ys a
-in_both [] ys a h = inr h
-in_both (x ∷ xs) ys a (zero, inside, at) = inl (zero, omega arith, at)
-in_both (x ∷ xs) ys a (suc k, inside, at) = ⊎_elim (λ (l : Contains xs a). let low = l.1 in inl (suc l.0, omega arith, l.2)) (λ r. inr r) (in_both xs ys a (k, omega arith, at))
-
-none_in : {A : Type 0} (a : A) → ¬ Contains [] a
-none_in a (k, inside, at) = absurd (omega arith)
 
 -- the seat n is gone from the core, and of the others the seat `of` has another view
 pub record Gone (c c' : Shown) (of n : ℕ) : Type 0 where
@@ -163,41 +158,43 @@ module _ {T : Type 0} (may : T → ℕ → ℕ → ℕ → Type 0) (key : Key T)
         takes = λ k h. r.takes k (subst (λ (z : List (Mark (List ℕ))). Contains z k) gone.takes h);
       }
 
-  -- the side `of` is told what the seat n has seen
-  module _ (L : CoreLaws G) (J : IsJoin) (c : Shown) (sound : Sound G c) (of n : ℕ) (alive : c.life of ≡ Live) (known : c.life n ≡ Live) where
-    abbrev w : Name → ℕ
-    w = risen G (λ x. join_of (c.seen of x) (c.seen n x)) (c.seen of)
+  -- the seat `of` is told of words that were so
+  module _ (L : CoreLaws G) (law : IsJoin) (c : Shown) (sound : Sound G c) (of : ℕ) (alive : c.life of ≡ Live) (f : Name → ℕ) (below : (x : Name) → Fits G x → IsLater (f x) (c.word x)) where
+    abbrev both : Name → ℕ
+    both x = join_of (c.seen of x) (f x)
 
-    abbrev told : Shown
+    abbrev w : Name → ℕ
+    w = risen G both (c.seen of)
+
+    abbrev pub told : Shown
     told = rises of w 0 c
 
-    now : (m : ℕ) → c.life m ≡ Live → c.life m ≢ Spent
-    now m live gone = absurd (cc)
+    unspent : c.life of ≢ Spent
+    unspent gone = absurd (cc)
 
-    told_sound : Sound G told
+    pub told_sound : Sound G told
     told_sound = L.kept c (Rise of w 0) sound (
         alive,
-        λ x fits. let here : w x ≡ join_of (c.seen of x) (c.seen n x) = risen_here G (λ y. join_of (c.seen of y) (c.seen n y)) (c.seen of) x fits in
-          let least = J.least (c.seen of x) (c.seen n x) in (
+        λ x fits. let here : w x ≡ both x = risen_here G both (c.seen of) x fits in
+          let least = law.least (c.seen of x) (f x) in (
             subst (IsLater (c.seen of x)) (sym here) least.first,
-            subst (λ (z : ℕ). IsLater z (c.word x)) (sym here) (least.least (c.word x) (sound.seen.present of x (now of alive) fits) (sound.seen.present n x (now n known) fits)),
+            subst (λ (z : ℕ). IsLater z (c.word x)) (sym here) (least.least (c.word x) (sound.seen.present of x unspent fits) (below x fits)),
           ),
         omega arith,
-        λ x fits. risen_else G (λ y. join_of (c.seen of y) (c.seen n y)) (c.seen of) x fits,
+        λ x fits. risen_else G both (c.seen of) x fits,
       )
 
-    told_sees : (x : Name) → Fits G x → told.seen of x ≡ join_of (c.seen of x) (c.seen n x)
-    told_sees x fits = ap (λ (f : Name → ℕ). f x) (put_here c.seen of w) ∙ risen_here G (λ y. join_of (c.seen of y) (c.seen n y)) (c.seen of) x fits
+    pub told_sees : (x : Name) → Fits G x → told.seen of x ≡ both x
+    told_sees x fits = ap (λ (g : Name → ℕ). g x) (put_here c.seen of w) ∙ risen_here G both (c.seen of) x fits
 
-    told_seen_else : (m : ℕ) → m ≢ of → (x : Name) → told.seen m x ≡ c.seen m x
-    told_seen_else m o x = ap (λ (f : Name → ℕ). f x) (put_else c.seen of w m o)
+    pub told_seen_else : (m : ℕ) → m ≢ of → (x : Name) → told.seen m x ≡ c.seen m x
+    told_seen_else m o x = ap (λ (g : Name → ℕ). g x) (put_else c.seen of w m o)
 
-    told_looks_else : (m : ℕ) → m ≢ of → (x : Name) → told.looks m x ≡ c.looks m x
-    told_looks_else m o x = ap (λ (f : Name → ℕ). f x) (put_else c.looks of (put_word (Claim 0) (c.looks of (Claim 0) + 0) (c.looks of)) m o)
-
-    told_looks : (x : Name) → told.looks of x ≡ c.looks of x
-    told_looks x = ap (λ (f : Name → ℕ). f x) (put_here c.looks of (put_word (Claim 0) (c.looks of (Claim 0) + 0) (c.looks of)))
-        ∙ any_word (Claim 0) x (c.looks of (Claim 0) + 0) (c.looks of) (λ y v. v ≡ c.looks of y) (omega arith) (λ y. refl)
+    pub told_looks : (m : ℕ) (x : Name) → told.looks m x ≡ c.looks m x
+    told_looks m x = dite (ℕ_discrete m of)
+      (λ is. ap (λ (z : ℕ). told.looks z x) is ∙ (ap (λ (g : Name → ℕ). g x) (put_here c.looks of (put_word (Claim 0) (c.looks of (Claim 0) + 0) (c.looks of)))
+        ∙ (any_word (Claim 0) x (c.looks of (Claim 0) + 0) (c.looks of) (λ y v. v ≡ c.looks of y) (omega arith) (λ y. refl) ∙ ap (λ (z : ℕ). c.looks z x) (sym is))))
+      (λ o. ap (λ (g : Name → ℕ). g x) (put_else c.looks of (put_word (Claim 0) (c.looks of (Claim 0) + 0) (c.looks of)) m o))
 
   -- a watcher has no claim
   no_claim : CoreLaws G → (c : Shown) → Sound G c → (n : ℕ) → IsWatcher n → (o : Option Pending) → c.pending n ≡ o → c.pending n ≡ None
@@ -217,8 +214,9 @@ module _ {T : Type 0} (may : T → ℕ → ℕ → ℕ → Type 0) (key : Key T)
       let a = r.seats id d at live in let b = r.seats other e there' live' in
       let n : ℕ = e.number in
       let alive : r.core.life 0 ≡ Live = r.sound.lives.send in
-      let t : Shown = told L law r.core r.sound 0 n alive b.live in
-      let sound1 = told_sound L law r.core r.sound 0 n alive b.live in
+      let below : (x : Name) → Fits G x → IsLater (r.core.seen n x) (r.core.word x) = λ x fits. r.sound.seen.present n x (λ z. let l = b.live in absurd (cc)) fits in
+      let t : Shown = told L law r.core r.sound 0 alive (r.core.seen n) below in
+      let sound1 = told_sound L law r.core r.sound 0 alive (r.core.seen n) below in
       let c' : Shown = joined true G n t in
       let sound2 : Sound G c' = subst (λ (z : Bool). Sound G (joined z G n t)) (eq-eqb (n % 2) 0 marker.1) (L.kept t (Join n) sound1 (marker.0, b.live, sym b.pending_is ∙ none)) in
       let low : 2 ≤ n = marker.0 in
@@ -231,12 +229,12 @@ module _ {T : Type 0} (may : T → ℕ → ℕ → ℕ → Type 0) (key : Key T)
         slot = λ f i. refl;
         life_gone = put_here t.life n Spent;
         life = λ m o. put_else t.life n Spent m o;
-        seen = λ m o p x. let p' : m ≢ 0 = λ z. p (z ∙ sym zeroth) in sym (ap (λ (f : Name → ℕ). f x) (put_else t.seen n (first_word G) m o) ∙ told_seen_else L law r.core r.sound 0 n alive b.live m p' x);
-        looks = λ m o p x. let p' : m ≢ 0 = λ z. p (z ∙ sym zeroth) in sym (ap (λ (f : Name → ℕ). f x) (put_else t.looks n (λ y. 0) m o) ∙ told_looks_else L law r.core r.sound 0 n alive b.live m p' x);
+        seen = λ m o p x. let p' : m ≢ 0 = λ z. p (z ∙ sym zeroth) in sym (ap (λ (f : Name → ℕ). f x) (put_else t.seen n (first_word G) m o) ∙ told_seen_else L law r.core r.sound 0 alive (r.core.seen n) below m p' x);
+        looks = λ m o p x. sym (ap (λ (f : Name → ℕ). f x) (put_else t.looks n (λ y. 0) m o) ∙ told_looks L law r.core r.sound 0 alive (r.core.seen n) below m x);
         pending = λ m. refl;
         marks = λ m o p. let p' : m ≢ 0 = λ z. p (z ∙ sym zeroth) in put_else (put t.marks 0 (t.marks n ++ t.marks 0)) n [] m o ∙ put_else t.marks 0 (t.marks n ++ t.marks 0) m p';
         marked = λ m k held. dite (ℕ_discrete m n)
-          (λ is. absurd (none_in k (subst (λ (z : List (Mark (List ℕ))). Contains z k) (ap c'.marks is ∙ put_here (put t.marks 0 (t.marks n ++ t.marks 0)) n []) held)))
+          (λ is. absurd (in_none k (subst (λ (z : List (Mark (List ℕ))). Contains z k) (ap c'.marks is ∙ put_here (put t.marks 0 (t.marks n ++ t.marks 0)) n []) held)))
           (λ o. dite (ℕ_discrete m 0)
             (λ is. let both : Contains all k = subst (λ (z : List (Mark (List ℕ))). Contains z k) (ap c'.marks is ∙ marks_of) held in
               ⊎_elim (λ x. (n, x)) (λ y. (0, y)) (in_both (r.core.marks n) (r.core.marks 0) k both))
@@ -255,9 +253,9 @@ module _ {T : Type 0} (may : T → ℕ → ℕ → ℕ → Type 0) (key : Key T)
           seen_is = λ x fits. joined_at d.seen e.seen (number G x) (a.seen_size ∙ sym b.seen_size) (subst (λ (z : ℕ). number G x < z) (sym a.seen_size) (number_lt G x fits))
             ∙ (ap (λ (z : ℕ). join_of z (get_or e.seen (number G x) 0)) (a.seen_is x fits ∙ ap (λ (z : ℕ). r.core.seen z x) zeroth)
             ∙ (ap (join_of (r.core.seen 0 x)) (b.seen_is x fits)
-            ∙ sym (ap (λ (z : ℕ). c'.seen z x) zeroth ∙ (ap (λ (f : Name → ℕ). f x) (put_else t.seen n (first_word G) 0 o0) ∙ told_sees L law r.core r.sound 0 n alive b.live x fits))));
+            ∙ sym (ap (λ (z : ℕ). c'.seen z x) zeroth ∙ (ap (λ (f : Name → ℕ). f x) (put_else t.seen n (first_word G) 0 o0) ∙ told_sees L law r.core r.sound 0 alive (r.core.seen n) below x fits))));
           looks_is = λ x fits. a.looks_is x fits ∙ (ap (λ (z : ℕ). r.core.looks z x) zeroth
-            ∙ sym (ap (λ (z : ℕ). c'.looks z x) zeroth ∙ (ap (λ (f : Name → ℕ). f x) (put_else t.looks n (λ y. 0) 0 o0) ∙ told_looks L law r.core r.sound 0 n alive b.live x)));
+            ∙ sym (ap (λ (z : ℕ). c'.looks z x) zeroth ∙ (ap (λ (f : Name → ℕ). f x) (put_else t.looks n (λ y. 0) 0 o0) ∙ told_looks L law r.core r.sound 0 alive (r.core.seen n) below 0 x)));
           pending_is = a.pending_is;
           marks_is = λ i. (ap (λ (z : List (Mark (List ℕ))). z ++ d.marks) b.marks_is ∙ (ap (λ (z : List (Mark (List ℕ))). r.core.marks n ++ z) (a.marks_is ∙ ap r.core.marks zeroth) ∙ sym (ap c'.marks zeroth ∙ marks_of))) i;
           send_is = λ z. ap marker_less (a.send_is z);
@@ -277,8 +275,9 @@ module _ {T : Type 0} (may : T → ℕ → ℕ → ℕ → Type 0) (key : Key T)
       let a = r.seats id d at live in let b = r.seats other e there' live' in
       let n : ℕ = e.number in
       let alive : r.core.life 1 ≡ Live = r.sound.lives.recv in
-      let t : Shown = told L law r.core r.sound 1 n alive b.live in
-      let sound1 = told_sound L law r.core r.sound 1 n alive b.live in
+      let below : (x : Name) → Fits G x → IsLater (r.core.seen n x) (r.core.word x) = λ x fits. r.sound.seen.present n x (λ z. let l = b.live in absurd (cc)) fits in
+      let t : Shown = told L law r.core r.sound 1 alive (r.core.seen n) below in
+      let sound1 = told_sound L law r.core r.sound 1 alive (r.core.seen n) below in
       let c' : Shown = joined false G n t in
       let odd = watcher.1 in
       let sound2 : Sound G c' = subst (λ (z : Bool). Sound G (joined z G n t)) (ne_eqb (n % 2) 0 (λ z. omega arith)) (L.kept t (Join n) sound1 (watcher.0, b.live, no_pending L r.core r.sound n watcher)) in
@@ -290,8 +289,8 @@ module _ {T : Type 0} (may : T → ℕ → ℕ → ℕ → Type 0) (key : Key T)
         slot = λ f i. refl;
         life_gone = put_here t.life n Spent;
         life = λ m o. put_else t.life n Spent m o;
-        seen = λ m o p x. let p' : m ≢ 1 = λ z. p (z ∙ sym oneth) in sym (ap (λ (f : Name → ℕ). f x) (put_else t.seen n (first_word G) m o) ∙ told_seen_else L law r.core r.sound 1 n alive b.live m p' x);
-        looks = λ m o p x. let p' : m ≢ 1 = λ z. p (z ∙ sym oneth) in sym (ap (λ (f : Name → ℕ). f x) (put_else t.looks n (λ y. 0) m o) ∙ told_looks_else L law r.core r.sound 1 n alive b.live m p' x);
+        seen = λ m o p x. let p' : m ≢ 1 = λ z. p (z ∙ sym oneth) in sym (ap (λ (f : Name → ℕ). f x) (put_else t.seen n (first_word G) m o) ∙ told_seen_else L law r.core r.sound 1 alive (r.core.seen n) below m p' x);
+        looks = λ m o p x. sym (ap (λ (f : Name → ℕ). f x) (put_else t.looks n (λ y. 0) m o) ∙ told_looks L law r.core r.sound 1 alive (r.core.seen n) below m x);
         pending = λ m. refl;
         marks = λ m o p. refl;
         marked = λ m k held. (m, held);
@@ -309,9 +308,9 @@ module _ {T : Type 0} (may : T → ℕ → ℕ → ℕ → Type 0) (key : Key T)
           seen_is = λ x fits. joined_at d.seen e.seen (number G x) (a.seen_size ∙ sym b.seen_size) (subst (λ (z : ℕ). number G x < z) (sym a.seen_size) (number_lt G x fits))
             ∙ (ap (λ (z : ℕ). join_of z (get_or e.seen (number G x) 0)) (a.seen_is x fits ∙ ap (λ (z : ℕ). r.core.seen z x) oneth)
             ∙ (ap (join_of (r.core.seen 1 x)) (b.seen_is x fits)
-            ∙ sym (ap (λ (z : ℕ). c'.seen z x) oneth ∙ (ap (λ (f : Name → ℕ). f x) (put_else t.seen n (first_word G) 1 o1) ∙ told_sees L law r.core r.sound 1 n alive b.live x fits))));
+            ∙ sym (ap (λ (z : ℕ). c'.seen z x) oneth ∙ (ap (λ (f : Name → ℕ). f x) (put_else t.seen n (first_word G) 1 o1) ∙ told_sees L law r.core r.sound 1 alive (r.core.seen n) below x fits))));
           looks_is = λ x fits. a.looks_is x fits ∙ (ap (λ (z : ℕ). r.core.looks z x) oneth
-            ∙ sym (ap (λ (z : ℕ). c'.looks z x) oneth ∙ (ap (λ (f : Name → ℕ). f x) (put_else t.looks n (λ y. 0) 1 o1) ∙ told_looks L law r.core r.sound 1 n alive b.live x)));
+            ∙ sym (ap (λ (z : ℕ). c'.looks z x) oneth ∙ (ap (λ (f : Name → ℕ). f x) (put_else t.looks n (λ y. 0) 1 o1) ∙ told_looks L law r.core r.sound 1 alive (r.core.seen n) below 1 x)));
           pending_is = a.pending_is;
           marks_is = a.marks_is;
           send_is = λ z. absurd (omega arith);
@@ -320,3 +319,108 @@ module _ {T : Type 0} (may : T → ℕ → ℕ → ℕ → Type 0) (key : Key T)
           takes_is = a.takes_is;
           watchers_is = a.watchers_is;
         }))
+
+  -- a note is told to a seat
+  pub hears : CoreLaws G → IsJoin → (id : ℕ) (d : View) (other : ℕ) (e : View) → d.standing ≡ stand.Seated → e.standing ≡ stand.Told
+      → Joins (Holds may key) id d other e (view.told d e) spent
+  hears L law id d other e live said s h at far there =
+      let r = of_running may key L s h id d at live in
+      let there' : get_elem? s.views other ≡ some e = sym (set_else s.views id other (view.told d e) far) ∙ there in
+      let a = r.seats id d at live in let b = r.notes other e there' said in
+      let of : ℕ = d.number in
+      let f : Name → ℕ = λ x. get_or e.seen (number G x) 0 in
+      let c' : Shown = told L law r.core r.sound of a.live f b.seen_is in
+      let both' : View = view.told d e in
+      let seen' : (m : ℕ) → m ≢ of → (x : Name) → c'.seen m x ≡ r.core.seen m x = told_seen_else L law r.core r.sound of a.live f b.seen_is in
+      let looks' : (m : ℕ) (x : Name) → c'.looks m x ≡ r.core.looks m x = told_looks L law r.core r.sound of a.live f b.seen_is in
+      let keep : (i : ℕ) (f : View) → Agrees G r.core r.alone r.markers r.watchers r.seat i f → f.number ≢ of → Agrees G c' r.alone r.markers r.watchers r.seat i f = λ i f k o.
+        record {
+          geometry = k.geometry;
+          seat_is = k.seat_is;
+          given = k.given;
+          live = k.live;
+          seen_size = k.seen_size;
+          looks_size = k.looks_size;
+          seen_is = λ x fits. k.seen_is x fits ∙ sym (seen' f.number o x);
+          looks_is = λ x fits. k.looks_is x fits ∙ sym (looks' f.number x);
+          pending_is = k.pending_is;
+          marks_is = k.marks_is;
+          send_is = k.send_is;
+          markers_is = k.markers_is;
+          recv_is = k.recv_is;
+          takes_is = k.takes_is;
+          watchers_is = k.watchers_is;
+        } in
+      let mine : Agrees G c' r.alone r.markers r.watchers r.seat id both' = record {
+          geometry = a.geometry;
+          seat_is = a.seat_is;
+          given = a.given;
+          live = a.live;
+          seen_size = joined_length d.seen e.seen (a.seen_size ∙ sym b.seen_size) ∙ a.seen_size;
+          looks_size = a.looks_size;
+          seen_is = λ x fits. joined_at d.seen e.seen (number G x) (a.seen_size ∙ sym b.seen_size) (subst (λ (z : ℕ). number G x < z) (sym a.seen_size) (number_lt G x fits))
+            ∙ (ap (λ (z : ℕ). join_of z (f x)) (a.seen_is x fits) ∙ sym (told_sees L law r.core r.sound of a.live f b.seen_is x fits));
+          looks_is = λ x fits. a.looks_is x fits ∙ sym (looks' of x);
+          pending_is = a.pending_is;
+          marks_is = a.marks_is;
+          send_is = a.send_is;
+          markers_is = a.markers_is;
+          recv_is = a.recv_is;
+          takes_is = a.takes_is;
+          watchers_is = a.watchers_is;
+        } in
+      let views' : List View = set s.views id both' in
+      let which : (i : ℕ) (f : View) → get_elem? (set views' other spent) i ≡ some f → (spent ≡ f) ⊎ ((i ≡ id) × (both' ≡ f)) ⊎ ((i ≢ id) × (get_elem? s.views i ≡ some f)) = λ i f is. ⊎_elim
+        (λ (u : (i ≡ other) × (spent ≡ f)). inl u.1)
+        (λ (u : (i ≢ other) × (get_elem? views' i ≡ some f)). inr (at_set s.views id i both' f u.1))
+        (at_set views' other i spent f is) in
+      inl (record {
+        core = c';
+        seat = r.seat;
+        alone = r.alone;
+        markers = r.markers;
+        watchers = r.watchers;
+        bytes = r.bytes;
+        shape = r.shape;
+        sound = told_sound L law r.core r.sound of a.live f b.seen_is;
+        size = r.size;
+        room = r.room;
+        words = r.words;
+        slots = r.slots;
+        kept = r.kept;
+        seats = λ i f is alive. ⊎_elim
+            (λ (u : spent ≡ f). let no : spent.standing ≡ stand.Seated = ap (λ (z : View). z.standing) u ∙ alive in absurd (cc))
+            (λ (y : ((i ≡ id) × (both' ≡ f)) ⊎ ((i ≢ id) × (get_elem? s.views i ≡ some f))). ⊎_elim
+              (λ (u : (i ≡ id) × (both' ≡ f)). subst (λ (z : ℕ × View). Agrees G c' r.alone r.markers r.watchers r.seat z.0 z.1) (λ j. (sym u.0 j, u.1 j)) mine)
+              (λ (u : (i ≢ id) × (get_elem? s.views i ≡ some f)). let k = r.seats i f u.1 alive in keep i f k (λ z. u.0 (sym k.seat_is ∙ (ap r.seat z ∙ a.seat_is)))) y)
+            (which i f is);
+        notes = λ i f is told. ⊎_elim
+            (λ (u : spent ≡ f). let no : spent.standing ≡ stand.Told = ap (λ (z : View). z.standing) u ∙ told in absurd (cc))
+            (λ (y : ((i ≡ id) × (both' ≡ f)) ⊎ ((i ≢ id) × (get_elem? s.views i ≡ some f))). ⊎_elim
+              (λ (u : (i ≡ id) × (both' ≡ f)). let no : both'.standing ≡ stand.Told = ap (λ (z : View). z.standing) u.1 ∙ told in absurd (cc))
+              (λ (u : (i ≢ id) × (get_elem? s.views i ≡ some f)). let k = r.notes i f u.1 told in
+                record { geometry = k.geometry; seen_size = k.seen_size; seen_is = k.seen_is }) y)
+            (which i f is);
+        running = λ i f is closed. ⊎_elim
+            (λ (u : spent ≡ f). let no : spent.standing ≡ stand.Closed = ap (λ (z : View). z.standing) u ∙ closed in absurd (cc))
+            (λ (y : ((i ≡ id) × (both' ≡ f)) ⊎ ((i ≢ id) × (get_elem? s.views i ≡ some f))). ⊎_elim
+              (λ (u : (i ≡ id) × (both' ≡ f)). let no : both'.standing ≡ stand.Closed = ap (λ (z : View). z.standing) u.1 ∙ closed in absurd (cc))
+              (λ (u : (i ≢ id) × (get_elem? s.views i ≡ some f)). r.running i f u.1 closed) y)
+            (which i f is);
+        first = λ is. let z = r.first is in
+          let other1 : 1 ≢ of = λ w. one_not_alone r.alone r.markers r.watchers of is (sym w) a.given in
+          record { recv = z.recv; seen = λ x fits. seen' 1 other1 x ∙ z.seen x fits; looks = λ x fits. looks' 1 x ∙ z.looks x fits; pending = z.pending; marks = z.marks; takes = z.takes };
+        unwatched = r.unwatched;
+        new = r.new;
+        here = λ m alive reached. let h = r.here m alive reached in
+            let away : r.seat m ≢ other = λ is.
+              let eq : e ≡ h.0 = some-injective e h.0 (sym there' ∙ (ap (get_elem? s.views) (sym is) ∙ h.1)) in
+              let no : h.0.standing ≡ stand.Told = ap (λ (z : View). z.standing) (sym eq) ∙ said in let yes' = h.2 in absurd (cc) in
+            dite (ℕ_discrete (r.seat m) id)
+              (λ is. let eq : d ≡ h.0 = some-injective d h.0 (sym at ∙ (ap (get_elem? s.views) (sym is) ∙ h.1)) in
+                (both', ap (get_elem? (set views' other spent)) is ∙ (set_else views' other id spent (λ z. far (sym z)) ∙ set_here s.views id both' (at_split s.views id d at).0), live,
+                ap (λ (z : View). z.number) eq ∙ h.3))
+              (λ apart. (h.0, set_else views' other (r.seat m) spent away ∙ (set_else s.views id (r.seat m) both' apart ∙ h.1), h.2, h.3));
+        marks = r.marks;
+        takes = r.takes;
+      })
