@@ -26,7 +26,7 @@ module _ {X : Type 0} where
       (λ (t : Contains (xs ++ ys) y). ⊎_elim (λ (a : Contains xs y). inl (in_rest x y xs a)) (λ (b : Contains ys y). inr b) (in_both xs ys y t))
       (in_cons x y (xs ++ ys) h)
 
-cases : (b : Bool) → (b ≡ true) ⊎ (b ≡ false)
+pub cases : (b : Bool) → (b ≡ true) ⊎ (b ≡ false)
 cases true = inl refl
 cases false = inr refl
 
@@ -37,7 +37,7 @@ both_true false b e = absurd (cc)
 one_if : (b : Bool) → b ≡ true → ◌≡◌ {A = ℕ} (if b then 1 else 0) 1
 one_if b e = ap (λ (z : Bool). let n : ℕ = if z then 1 else 0 in n) e
 
-none_if : (b : Bool) → b ≡ false → ◌≡◌ {A = ℕ} (if b then 1 else 0) 0
+pub none_if : (b : Bool) → b ≡ false → ◌≡◌ {A = ℕ} (if b then 1 else 0) 0
 none_if b e = ap (λ (z : Bool). let n : ℕ = if z then 1 else 0 in n) e
 
 module _ {A : Type 0} where

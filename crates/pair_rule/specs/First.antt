@@ -11,7 +11,7 @@ use Rattle.pair_core.specs.declared.view.SendSide.{SendSide}
 use Rattle.pair_core.specs.declared.view.RecvSide.{RecvSide}
 use Rattle.pair_rule.specs.Views.{told}
 use Rattle.pair_rule.specs.declared.view.View.{View}
-use Rattle.pair_rule.specs.declared.view.Standing.TheVariants.{Seated, Told, Spent}
+use Rattle.pair_rule.specs.declared.view.Standing.TheVariants.{Seated, Told, Spent, Closed}
 
 -- the word with a number before the first step: claim words, the release word, take words, return words, and the piece words of
 -- each place
@@ -82,3 +82,7 @@ with_marker_back d e = record (told d e) { send = record d.send { markers = d.se
 
 abbrev pub with_watcher_back : View → View → View
 with_watcher_back d e = record (told d e) { recv = record d.recv { watchers = d.recv.watchers - 1 } }
+
+-- the receive side is joined into the send side, and the pair is closed
+abbrev pub closed : View → View → View
+closed d e = record d { standing = Closed; recv = e.recv; takes = e.takes }
