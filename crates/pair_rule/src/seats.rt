@@ -12,11 +12,11 @@ use std::marker::{Model, PhantomData};
 /// The seat of the send side, the only one that starts and ends its rounds. Contracts see its table and its view.
 pub struct SendSeat<C: Content> {
     pub(crate) seat: Place,
-    content: PhantomData<C>,
+    pub(crate) content: PhantomData<C>,
 }
 
 impl<C: Content> Model for SendSeat<C> {
-    ghost use Rattle.std.specs.Prelude.{◌≡◌, []};
+    ghost use Rattle.std.specs.Prelude.{◌≡◌, [], false};
     ghost use Rattle.pair_rule.specs.Seats.{Held};
     ghost use Rattle.pair_rule.specs.declared.view.Standing.TheVariants.{Seated};
 
@@ -24,7 +24,8 @@ impl<C: Content> Model for SendSeat<C> {
 
     ghost view = { λ s. record { table = s.seat.table_id; view = s.seat.me.0 } };
 
-    ghost invariant = { λ s. (s.seat.me.0.standing ≡ Seated) × (s.seat.me.0.number ≡ 0) × (s.seat.me.1 ≡ []) };
+    ghost invariant = { λ s. (s.seat.me.0.standing ≡ Seated) × (s.seat.me.0.number ≡ 0) × (s.seat.me.1 ≡ [])
+        × (s.seat.me.0.alone ≡ false) };
 }
 
 /// The seat of a thread that marks. While a claim of it pends, slots of the claimed partition are out with it: `count` of
@@ -33,7 +34,7 @@ pub struct MarkSeat<C: Content> {
     pub(crate) seat: Place,
     pub(crate) first: usize,
     pub(crate) count: usize,
-    content: PhantomData<C>,
+    pub(crate) content: PhantomData<C>,
 }
 
 impl<C: Content> Model for MarkSeat<C> {
@@ -54,7 +55,7 @@ impl<C: Content> Model for MarkSeat<C> {
 /// The seat of a thread that watches partitions arrive.
 pub struct WatchSeat<C: Content> {
     pub(crate) seat: Place,
-    content: PhantomData<C>,
+    pub(crate) content: PhantomData<C>,
 }
 
 impl<C: Content> Model for WatchSeat<C> {
@@ -139,7 +140,7 @@ pub struct RecvSeat<C: Content> {
     pub(crate) seat: Place,
     pub(crate) lanes: Vec<Lane>,
     pub(crate) shelves: Vec<Option<Shelf>>,
-    content: PhantomData<C>,
+    pub(crate) content: PhantomData<C>,
 }
 
 impl<C: Content> Model for RecvSeat<C> {
@@ -158,7 +159,7 @@ impl<C: Content> Model for RecvSeat<C> {
 /// What a seat had seen when it made the note. It is no seat, makes no step, and may be dropped.
 pub struct Note<C: Content> {
     pub(crate) seat: Place,
-    content: PhantomData<C>,
+    pub(crate) content: PhantomData<C>,
 }
 
 impl<C: Content> Model for Note<C> {
@@ -175,7 +176,10 @@ impl<C: Content> Model for Note<C> {
 
 impl<C: Content> Drop for SendSeat<C> {
     fn drop(self) {
-        let SendSeat { seat: _, content: _ } = self;
+        let SendSeat {
+            seat: _,
+            content: _,
+        } = self;
     }
 }
 
@@ -192,7 +196,10 @@ impl<C: Content> Drop for MarkSeat<C> {
 
 impl<C: Content> Drop for WatchSeat<C> {
     fn drop(self) {
-        let WatchSeat { seat: _, content: _ } = self;
+        let WatchSeat {
+            seat: _,
+            content: _,
+        } = self;
     }
 }
 
@@ -209,6 +216,9 @@ impl<C: Content> Drop for RecvSeat<C> {
 
 impl<C: Content> Drop for Note<C> {
     fn drop(self) {
-        let Note { seat: _, content: _ } = self;
+        let Note {
+            seat: _,
+            content: _,
+        } = self;
     }
 }
