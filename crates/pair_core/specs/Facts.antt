@@ -1,22 +1,19 @@
 -- What a layer above may rest on in a sound state, a sentence a fact: each is of one state, or of one move from it.
-use Rattle.std.specs.Prelude.{◌≡◌, ◌≢◌, ◌⊎◌, ℕ, ◌+◌, ◌/◌, ◌%◌, ◌<◌, ◌≤◌, List, Option, Some, None, false}
+use Rattle.std.specs.Prelude.{◌≡◌, ◌≢◌, ◌⊎◌, ℕ, ◌/◌, ◌%◌, ◌<◌, ◌≤◌, Some, None, false}
 use Rattle.gate_word.specs.Words.{round_in}
-use Rattle.gate_word.specs.Order.{IsLater}
 use Rattle.part_geometry.specs.Shape.{Shape}
 use Rattle.part_geometry.specs.Cells.{cells, send_of, recv_of}
 use Rattle.part_geometry.specs.Pieces.{pieces, piece_of, Touches}
 use Rattle.pair_core.specs.Words.{bit}
-use Rattle.pair_core.specs.Names.{Name, Claim, Release, Take, Return, Piece, claim_words, Fits}
-use Rattle.pair_core.specs.Core.{Core, Slot, Home, Out, IsMarker, has, times}
+use Rattle.pair_core.specs.Names.{Claim, Return, Piece, claim_words}
+use Rattle.pair_core.specs.Core.{Core, Home, Out, IsMarker, has, times}
 use Rattle.pair_core.specs.Reading.{part_bit, next_round, IsFull}
 use Rattle.pair_core.specs.Steps.{enters}
 use Rattle.pair_core.specs.Moves.{Move, LayPiece, TakePart, ReturnPart, IsSendActive, IsSendIdle, MayClaim, IsAllowed}
 use Rattle.pair_core.specs.Moves.{after}
 use Rattle.pair_core.specs.Sound.{HasRound, Sound}
-use Rattle.pair_core.specs.declared.view.Mark.{Mark}
 use Rattle.pair_core.specs.declared.view.Pending.{Pending}
-use Rattle.pair_core.specs.declared.view.Life.{Life}
-use Rattle.pair_core.specs.declared.view.Life.TheVariants.{Blank, Live, Spent}
+use Rattle.pair_core.specs.declared.view.Life.TheVariants.{Live, Spent}
 
 module _ {A : Type 0} where
   -- the word of cell c's piece at place d, and the return words

@@ -1,10 +1,10 @@
 -- What holds of every list of moves from the first state, in the terms of its history.
-use Rattle.std.specs.Prelude.{◌≡◌, ◌≢◌, ◌⊎◌, ℕ, zero, suc, ◌+◌, ◌-◌, ◌%◌, ◌<◌, ◌≤◌, List, [], ◌∷◌, ◌++◌, Option, Some}
+use Rattle.std.specs.Prelude.{◌≡◌, ℕ, zero, suc, ◌-◌, ◌%◌, ◌<◌, ◌≤◌, List, [], ◌∷◌, ◌++◌, Option, Some}
 use Rattle.std.specs.Prelude.{None}
-use Rattle.part_geometry.specs.Shape.{Shape, IsShape}
+use Rattle.part_geometry.specs.Shape.{Shape}
 use Rattle.part_geometry.specs.Cells.{cells, recv_of}
 use Rattle.part_geometry.specs.Pieces.{pieces, Touches, TouchesRecv}
-use Rattle.pair_core.specs.Core.{Core, Slot, Home}
+use Rattle.pair_core.specs.Core.{Core, Home}
 use Rattle.pair_core.specs.Moves.{Move, TakePart, IsAllowed, after, first_state}
 use Rattle.pair_core.specs.Sound.{Sound}
 use Rattle.pair_core.specs.History.{Entry, Open, Mark, Lay, Out, Listen, Take, Release, Shut, Has, Happened}

@@ -1,5 +1,5 @@
 -- Which moves a pair may make, and the state after each. A move is an atomic step, or changes views alone.
-use Rattle.std.specs.Prelude.{◌≡◌, ◌≢◌, ◌⊎◌, ℕ, ◌+◌, ◌-◌, ◌/◌, ◌%◌, ◌<◌, ◌≤◌, ◌==◌, Bool, true, false, List, [], ◌∷◌}
+use Rattle.std.specs.Prelude.{◌≡◌, ◌≢◌, ◌⊎◌, ℕ, ◌+◌, ◌-◌, ◌/◌, ◌%◌, ◌<◌, ◌≤◌, ◌==◌, Bool, true, false, []}
 use Rattle.std.specs.Prelude.{◌++◌, Option, Some, None, ◌*◌, ◌^◌, min, if◌then◌else◌, nat_lt}
 use Rattle.gate_word.specs.Words.{round_in, word_of}
 use Rattle.gate_word.specs.Order.{IsLater}
@@ -7,8 +7,8 @@ use Rattle.part_geometry.specs.declared.TheConstants.{LAST_ROUND}
 use Rattle.part_geometry.specs.Shape.{Shape}
 use Rattle.part_geometry.specs.Pieces.{pieces, need, Touches, TouchesRecv}
 use Rattle.pair_core.specs.Words.{bit}
-use Rattle.pair_core.specs.Names.{Name, Claim, Release, Take, Return, Piece, claim_words, take_words, Fits, number, put}
-use Rattle.pair_core.specs.Core.{Core, Slot, Home, IsMarker, IsWatcher, has}
+use Rattle.pair_core.specs.Names.{Name, Claim, Release, Take, Return, Piece, claim_words, take_words, Fits, put}
+use Rattle.pair_core.specs.Core.{Core, Home, IsMarker, has}
 use Rattle.pair_core.specs.Reading.{part_bit, IsFull}
 use Rattle.pair_core.specs.Steps.{enters, loads, stores_piece, stores_claim, shuts_claim, tries_claim, lays_piece}
 use Rattle.pair_core.specs.Steps.{stores_return, stores_take, takes_part, returns_part, releases, rises, marker_less}
@@ -16,7 +16,6 @@ use Rattle.pair_core.specs.Steps.{watcher_less}
 use Rattle.pair_core.specs.declared.view.Pending.{Pending}
 use Rattle.pair_core.specs.declared.view.SendSide.{SendSide}
 use Rattle.pair_core.specs.declared.view.RecvSide.{RecvSide}
-use Rattle.pair_core.specs.declared.view.Life.{Life}
 use Rattle.pair_core.specs.declared.view.Life.TheVariants.{Blank, Live, Spent}
 
 -- The thirteen kinds of atomic step; n is the seat where any seat or marker may make it, k the round, p a send and q a
