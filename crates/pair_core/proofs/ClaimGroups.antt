@@ -9,7 +9,7 @@ use Rattle.part_geometry.specs.Pieces.{pieces, piece_of, first_part, Touches}
 use Rattle.pair_core.specs.Words.{bit}
 use Rattle.pair_core.specs.Names.{put, put_pair}
 use Rattle.pair_core.specs.Core.{Slot, Home, Out, IsMarker}
-use Rattle.pair_core.specs.Reading.{part_bit, next_round, laid}
+use Rattle.pair_core.specs.Reading.{part_bit, laid}
 use Rattle.pair_core.specs.Steps.{put_slots}
 use Rattle.pair_core.specs.Sound.{Progress, Gates, Pieces, Arrived, IsPending, Claims, IsHeld, HasRound, Slots}
 use Rattle.pair_core.specs.declared.view.Pending.{Pending}

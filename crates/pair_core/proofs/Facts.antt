@@ -1,9 +1,8 @@
 -- What a layer above may rest on, and the lemmas that its own proofs use: it imports this file alone.
-use Rattle.std.proofs.Common.{◌≡◌, ℕ, ◌≤◌, subst, arith}
+use Rattle.std.proofs.Common.{subst, arith}
 use Rattle.part_geometry.specs.Shape.{Shape, IsShape}
 use Rattle.part_geometry.specs.Cells.{send_of}
 use Rattle.part_geometry.specs.Pieces.{piece_of, TouchesRecv}
-use Rattle.pair_core.specs.Core.{Core}
 use Rattle.pair_core.specs.Facts.{StateFacts}
 use Rattle.pair_core.proofs.Cut.{cell_piece, cell_touches, cell_touches_recv}
 use Rattle.pair_core.proofs.Claims.{claim_home, claim_unmarked, claim_untaken_cell}

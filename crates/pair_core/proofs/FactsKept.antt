@@ -1,14 +1,14 @@
 -- Which buffers that are home have a round, and which of them a move changes: only the lay that brings a buffer home gives
 -- it one.
-use Rattle.std.proofs.Common.{◌≡◌, ◌≢◌, ◌⊎◌, inl, inr, ⊎_elim, ℕ, ◌+◌, ◌-◌, ◌/◌, ◌%◌, ◌^◌, ◌<◌, ◌≤◌, Bool, true, false, ◌==◌, Option, Some, refl, sym, ap, ◌∙◌, subst, arith, bit_or}
+use Rattle.std.proofs.Common.{◌≡◌, ◌≢◌, ◌⊎◌, inl, inr, ⊎_elim, ℕ, ◌-◌, ◌/◌, ◌%◌, ◌^◌, ◌<◌, ◌≤◌, Bool, true, false, ◌==◌, Option, refl, sym, ap, ◌∙◌, subst, arith, bit_or}
 use Rattle.std.specs.Prelude.{if◌then◌else◌}
 use Rattle.std.proofs.lemmas.Bool.{cases_eq}
 use Rattle.gate_word.specs.Words.{round_in}
 use Rattle.part_geometry.specs.Shape.{Shape, IsShape}
 use Rattle.part_geometry.specs.Cells.{cells, send_of, recv_of}
 use Rattle.part_geometry.specs.Pieces.{pieces, piece_of, first_part, Touches}
-use Rattle.pair_core.specs.Words.{bit, empty}
-use Rattle.pair_core.specs.Names.{Name, Claim, Take, Return, Piece, take_words, put, put_pair}
+use Rattle.pair_core.specs.Words.{empty}
+use Rattle.pair_core.specs.Names.{Name, Claim, Return, Piece, take_words, put_pair}
 use Rattle.pair_core.specs.Core.{Core}
 use Rattle.pair_core.specs.Reading.{part_bit, next_round, laid, last_round}
 use Rattle.pair_core.specs.Steps.{counted, entered, enters, claims, loads, lays_piece}

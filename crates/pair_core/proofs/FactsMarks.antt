@@ -1,11 +1,11 @@
 -- What marks and takes are there, by what a seat has seen of the claim words and by how far the sides are.
-use Rattle.std.proofs.Common.{◌≡◌, ◌≢◌, ◌⊎◌, inl, inr, ⊎_elim, ℕ, ◌+◌, ◌-◌, ◌/◌, ◌%◌, ◌<◌, ◌≤◌, Option, Some, None, refl, sym, ap, ◌∙◌, arith}
+use Rattle.std.proofs.Common.{◌≡◌, ◌≢◌, ◌⊎◌, inl, inr, ⊎_elim, ℕ, ◌+◌, ◌-◌, ◌/◌, ◌%◌, ◌<◌, ◌≤◌, Some, None, sym, ap, ◌∙◌, arith}
 use Rattle.std.proofs.lemmas.Bool.{cases_lt, cases_eq}
 use Rattle.gate_word.specs.Words.{round_in}
 use Rattle.part_geometry.specs.Shape.{Shape, IsShape}
 use Rattle.part_geometry.specs.Pieces.{pieces, first_part, Touches}
 use Rattle.pair_core.specs.Words.{bit}
-use Rattle.pair_core.specs.Names.{Claim, Take, Piece, claim_words, take_words}
+use Rattle.pair_core.specs.Names.{Claim, Take, Piece, claim_words}
 use Rattle.pair_core.specs.Core.{Core, times}
 use Rattle.pair_core.specs.Reading.{part_bit, next_round, laid, IsFull}
 use Rattle.pair_core.specs.Moves.{MayClaim, IsSendActive}

@@ -1,11 +1,9 @@
 -- What a step on one word leaves of the groups that range over all words and seats.
-use Rattle.std.proofs.Common.{◌≡◌, ◌≢◌, ◌⊎◌, inl, inr, ⊎_elim, ℕ, ◌+◌, ◌*◌, ◌/◌, ◌%◌, ◌^◌, ◌<◌, ◌≤◌, List, Option, refl, sym, ap, ◌∙◌, subst, arith, bit_or}
-use Rattle.gate_word.specs.Words.{round_in}
+use Rattle.std.proofs.Common.{◌≡◌, ◌≢◌, ℕ, ◌^◌, ◌<◌, List, Option, refl, sym, ap, ◌∙◌, subst, bit_or}
 use Rattle.gate_word.specs.Order.{IsLater}
 use Rattle.part_geometry.specs.Shape.{Shape}
 use Rattle.pair_core.specs.Words.{bit, empty}
-use Rattle.pair_core.specs.Names.{Name, Claim, Release, Take, Return, Piece, claim_words, take_words, Fits, put, put_word}
-use Rattle.pair_core.specs.Core.{Core}
+use Rattle.pair_core.specs.Names.{Name, Fits, put, put_word}
 use Rattle.pair_core.specs.Moves.{first_word}
 use Rattle.pair_core.specs.Sound.{Seen, SeesOpened, IsNew, News, Owns, Unused, IsUsed}
 use Rattle.pair_core.specs.declared.view.Mark.{Mark}

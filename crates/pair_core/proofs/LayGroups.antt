@@ -8,7 +8,7 @@ use Rattle.part_geometry.specs.Cells.{cells, send_of, recv_of}
 use Rattle.part_geometry.specs.Pieces.{pieces, piece_of, first_part, Touches}
 use Rattle.pair_core.specs.Names.{put, put_pair}
 use Rattle.pair_core.specs.Core.{Slot, Home, Out, has}
-use Rattle.pair_core.specs.Reading.{part_bit, next_round, laid, IsFull, last_round}
+use Rattle.pair_core.specs.Reading.{part_bit, laid, IsFull, last_round}
 use Rattle.pair_core.specs.Steps.{put_slots, left_of}
 use Rattle.pair_core.specs.Sound.{Pieces, Arrived, IsClaimed, IsPending, Claims, IsHeld, HasRound, Slots, Takes}
 use Rattle.pair_core.specs.declared.view.Mark.{Mark}

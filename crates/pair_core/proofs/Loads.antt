@@ -1,13 +1,13 @@
 -- A load keeps soundness, and so does the first event of a seat.
-use Rattle.std.proofs.Common.{◌≡◌, ◌≢◌, ◌⊎◌, inl, inr, ⊎_elim, ℕ, suc, ◌+◌, ◌*◌, ◌/◌, ◌%◌, ◌^◌, ◌<◌, ◌≤◌, Bool, true, false, ◌==◌, List, [], ◌∷◌, length, refl, sym, ap, ◌∙◌, subst, arith}
+use Rattle.std.proofs.Common.{◌≡◌, ◌≢◌, ℕ, refl, ap, ◌∙◌, arith}
 use Rattle.part_geometry.specs.Shape.{Shape}
-use Rattle.pair_core.specs.Names.{Name, Claim, Release, Take, Return, Piece, take_words, put, put_word}
+use Rattle.pair_core.specs.Names.{Name, Claim, Take, Return, put, put_word}
 use Rattle.pair_core.specs.Core.{Core}
 use Rattle.gate_word.specs.Words.{round_in}
-use Rattle.pair_core.specs.Sound.{Sound, SeesOpened, Owns}
+use Rattle.pair_core.specs.Sound.{Sound, SeesOpened}
 use Rattle.pair_core.specs.declared.view.Life.TheVariants.{Blank}
 use Rattle.pair_core.specs.Steps.{loads}
-use Rattle.pair_core.proofs.Puts.{put_here, put_else, put_cases, any_word}
+use Rattle.pair_core.proofs.Puts.{put_cases, any_word}
 use Rattle.pair_core.proofs.Frames.{looks_at, news_else}
 
 module _ {A : Type 0} where

@@ -1,10 +1,10 @@
 -- The sentences of the laws, from the order in which entries come.
-use Rattle.std.proofs.Common.{◌≡◌, ◌≢◌, ◌⊎◌, inl, inr, ⊎_elim, ℕ, zero, suc, ◌+◌, ◌-◌, ◌%◌, ◌<◌, ◌≤◌, List, [], ◌∷◌, ◌++◌, Option, Some, None, refl, sym, ap, ◌∙◌, subst, arith}
+use Rattle.std.proofs.Common.{◌≡◌, ◌≢◌, inl, inr, ⊎_elim, ℕ, suc, ◌+◌, ◌-◌, ◌<◌, ◌≤◌, List, [], ◌∷◌, ◌++◌, refl, ap, subst, arith}
 use Rattle.std.proofs.lemmas.Bool.{cases_lt}
 use Rattle.part_geometry.specs.Shape.{Shape, IsShape}
-use Rattle.part_geometry.specs.Pieces.{pieces, Touches, TouchesRecv}
-use Rattle.pair_core.specs.History.{Entry, Open, Mark, Lay, Out, Listen, Take, Release, Shut, Has, Follows, IsInOrder, Happened}
-use Rattle.pair_core.specs.Laws.{rounds, with_round, opened, shut, listened, released, down, AreInOrder, KeepsOrder, KeepsOrderAlways, StaysSound, TakesItsRound}
+use Rattle.part_geometry.specs.Pieces.{pieces, Touches}
+use Rattle.pair_core.specs.History.{Entry, Open, Mark, Lay, Out, Listen, Take, Release, Shut, Has, Follows, IsInOrder}
+use Rattle.pair_core.specs.Laws.{rounds, opened, shut, listened, released, down, AreInOrder, KeepsOrder, KeepsOrderAlways, StaysSound, TakesItsRound}
 use Rattle.pair_core.proofs.Start.{starts_sound}
 use Rattle.pair_core.proofs.Keeps.{keeps, reaches}
 use Rattle.pair_core.proofs.ReceiveTakes.{take_home}

@@ -1,26 +1,26 @@
 -- Storing and shutting a claim word keep soundness.
-use Rattle.std.proofs.Common.{◌≡◌, ◌≢◌, ◌⊎◌, inl, inr, ⊎_elim, ℕ, zero, suc, ◌+◌, ◌-◌, ◌*◌, ◌/◌, ◌%◌, ◌^◌, ◌<◌, ◌≤◌, true, false, true≢false, List, Option, Some, None, refl, sym, ap, ◌∙◌, subst, arith, bit_or}
-use Rattle.std.proofs.lemmas.Bool.{cases_eq, cases_lt}
+use Rattle.std.proofs.Common.{◌≡◌, inl, inr, ℕ, ◌+◌, ◌/◌, ◌%◌, ◌^◌, ◌<◌, true≢false, List, Option, refl, sym, ap, ◌∙◌, arith, bit_or}
+use Rattle.std.proofs.lemmas.Bool.{cases_lt}
 use Rattle.gate_word.specs.Words.{round_in}
 use Rattle.part_geometry.specs.Shape.{Shape, IsShape}
-use Rattle.part_geometry.specs.Cells.{cells, send_of, recv_of}
-use Rattle.part_geometry.specs.Pieces.{pieces, piece_of, first_part, Touches, TouchesRecv}
+use Rattle.part_geometry.specs.Cells.{send_of}
+use Rattle.part_geometry.specs.Pieces.{pieces, piece_of, Touches}
 use Rattle.pair_core.specs.Words.{bit, empty}
-use Rattle.pair_core.specs.Names.{Name, Claim, Release, Take, Return, Piece, claim_words, take_words, put, put_word}
-use Rattle.pair_core.specs.Core.{Core, Slot, Home, Out, has, times}
-use Rattle.pair_core.specs.Reading.{part_bit, next_round, laid, IsFull, last_round}
+use Rattle.pair_core.specs.Names.{Name, Claim, Release, Take, Return, Piece, claim_words, put, put_word}
+use Rattle.pair_core.specs.Core.{Core, Slot}
+use Rattle.pair_core.specs.Reading.{part_bit, next_round, laid}
 use Rattle.pair_core.specs.Moves.{IsAllowed, StoreClaim, ShutClaim, after}
-use Rattle.pair_core.specs.Sound.{Sound, Progress, Gates, Pieces, Claims, IsPending, Slots, Marks, IsClaimed, IsOwed, IsLent, IsHeld}
+use Rattle.pair_core.specs.Sound.{Sound, Progress, Gates, Pieces, Claims, Slots, Marks, IsClaimed}
 use Rattle.pair_core.specs.declared.view.Mark.{Mark}
 use Rattle.pair_core.specs.declared.view.Pending.{Pending}
 use Rattle.pair_core.specs.declared.view.Life.{Life}
 use Rattle.pair_core.specs.declared.view.SendSide.{SendSide}
 use Rattle.pair_core.specs.declared.view.RecvSide.{RecvSide}
-use Rattle.pair_core.proofs.Words.{bit_lt, empty_round, empty_bit, later_newer, later_or, round_or, bit_or_here, bit_or_else}
-use Rattle.pair_core.proofs.Puts.{put_here, put_else, put_at}
-use Rattle.pair_core.proofs.Cut.{some_claims, claim_word, cell_send, cell_piece, cell_touches}
+use Rattle.pair_core.proofs.Words.{empty_round, empty_bit, later_newer, later_or, round_or, bit_or_here, bit_or_else}
+use Rattle.pair_core.proofs.Puts.{put_here, put_at}
+use Rattle.pair_core.proofs.Cut.{cell_piece, cell_touches}
 use Rattle.pair_core.proofs.Frames.{sees, news_else, live_not_blank, owns_else, unused_empty, unused_or}
-use Rattle.pair_core.proofs.SendFacts.{live_unspent, may_shut}
+use Rattle.pair_core.proofs.SendFacts.{may_shut}
 
 -- the same rounds were marked, where each partition's next round is the same
 marks_same : {A : Type 0} (g : Shape) (claim claim' : ℕ → ℕ) (life : ℕ → Life) (marks : ℕ → List (Mark A)) (who : ℕ → ℕ → ℕ)

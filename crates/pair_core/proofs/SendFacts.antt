@@ -1,11 +1,11 @@
 -- What a sound state says of the send side in each of its modes.
-use Rattle.std.proofs.Common.{◌≡◌, ◌≢◌, ◌⊎◌, inl, inr, ⊎_elim, ℕ, zero, suc, ◌+◌, ◌-◌, ◌*◌, ◌/◌, ◌%◌, ◌^◌, ◌<◌, ◌≤◌, Option, Some, None, refl, sym, ap, ◌∙◌, subst, arith}
+use Rattle.std.proofs.Common.{◌≡◌, ◌≢◌, inl, inr, ℕ, zero, suc, ◌+◌, ◌-◌, ◌/◌, ◌%◌, ◌<◌, ◌≤◌, refl, sym, ap, ◌∙◌, subst, arith}
 use Rattle.std.proofs.lemmas.Bool.{cases_eq, cases_lt}
 use Rattle.gate_word.specs.Words.{round_in}
 use Rattle.part_geometry.specs.Shape.{Shape, IsShape}
 use Rattle.part_geometry.specs.Pieces.{pieces, first_part, Touches}
 use Rattle.pair_core.specs.Words.{bit}
-use Rattle.pair_core.specs.Names.{Name, Claim, Release, Take, Return, Piece, claim_words, take_words}
+use Rattle.pair_core.specs.Names.{Claim, Release, Piece, claim_words}
 use Rattle.pair_core.specs.Core.{Core}
 use Rattle.pair_core.specs.Reading.{part_bit, laid, IsFull, last_round}
 use Rattle.pair_core.specs.Moves.{IsSendIdle, MayShut}
@@ -16,7 +16,7 @@ use Rattle.pair_core.specs.declared.view.SendSide.{SendSide}
 use Rattle.pair_core.specs.declared.view.RecvSide.{RecvSide}
 use Rattle.pair_core.proofs.Words.{bit_lt, later_round, later_bit}
 use Rattle.pair_core.proofs.Rounds.{place_lt, last_here, last_step, last_le, last_oldest}
-use Rattle.pair_core.proofs.Cut.{some_claims, touch_range, touch_part, bit_small, claim_word}
+use Rattle.pair_core.proofs.Cut.{some_claims, bit_small, claim_word}
 
 pub live_unspent : (x : Life) → x ≡ Live → x ≢ Spent
 live_unspent x e f = absurd (cc)

@@ -1,24 +1,24 @@
 -- Storing a piece word keeps soundness.
-use Rattle.std.proofs.Common.{◌≡◌, ◌≢◌, ◌⊎◌, inl, inr, ⊎_elim, ℕ, zero, suc, ◌+◌, ◌-◌, ◌*◌, ◌/◌, ◌%◌, ◌^◌, ◌<◌, ◌≤◌, List, Option, Some, None, refl, sym, ap, ◌∙◌, subst, arith}
+use Rattle.std.proofs.Common.{◌≡◌, ◌≢◌, ⊎_elim, ℕ, ◌+◌, ◌-◌, ◌/◌, ◌%◌, ◌<◌, List, Option, refl, sym, ap, subst, arith}
 use Rattle.gate_word.specs.Words.{round_in}
 use Rattle.part_geometry.specs.Shape.{Shape, IsShape}
-use Rattle.part_geometry.specs.Cells.{cells, send_of, recv_of}
-use Rattle.part_geometry.specs.Pieces.{pieces, piece_of, first_part, Touches, TouchesRecv}
-use Rattle.pair_core.specs.Words.{bit, empty}
-use Rattle.pair_core.specs.Names.{Name, Claim, Release, Take, Return, Piece, claim_words, take_words, put_pair}
-use Rattle.pair_core.specs.Core.{Core, Slot, Home, Out, times}
-use Rattle.pair_core.specs.Reading.{part_bit, next_round, laid, IsFull, last_round}
-use Rattle.pair_core.specs.Moves.{IsAllowed, StorePiece, after, IsRecvActive}
-use Rattle.pair_core.specs.Sound.{Sound, Progress, Gates, Pieces, Arrived, Claims, Slots, Takes, IsClaimed, IsLent, IsHeld, HasRound}
+use Rattle.part_geometry.specs.Cells.{send_of}
+use Rattle.part_geometry.specs.Pieces.{pieces, piece_of, first_part, Touches}
+use Rattle.pair_core.specs.Words.{empty}
+use Rattle.pair_core.specs.Names.{Claim, Release, Take, Return, Piece, put_pair}
+use Rattle.pair_core.specs.Core.{Core, Slot}
+use Rattle.pair_core.specs.Reading.{part_bit, laid, IsFull, last_round}
+use Rattle.pair_core.specs.Moves.{IsAllowed, StorePiece, after}
+use Rattle.pair_core.specs.Sound.{Sound, Progress, Gates, Pieces, Arrived, Claims, Slots, Takes, HasRound}
 use Rattle.pair_core.specs.declared.view.Mark.{Mark}
 use Rattle.pair_core.specs.declared.view.Pending.{Pending}
 use Rattle.pair_core.specs.declared.view.Life.{Life}
 use Rattle.pair_core.specs.declared.view.SendSide.{SendSide}
 use Rattle.pair_core.specs.declared.view.RecvSide.{RecvSide}
 use Rattle.pair_core.proofs.Words.{bit_lt, empty_round, empty_bit, later_newer}
-use Rattle.pair_core.proofs.Puts.{put_pair_here, put_pair_else, put_pair_at}
+use Rattle.pair_core.proofs.Puts.{put_pair_else, put_pair_at}
 use Rattle.pair_core.proofs.Rounds.{place_lt}
-use Rattle.pair_core.proofs.Cut.{some_claims, bit_small, touch_part, cell_piece, cell_touches}
+use Rattle.pair_core.proofs.Cut.{bit_small, cell_piece, cell_touches}
 use Rattle.pair_core.proofs.Frames.{sees, news_else, live_not_blank, owns_else, unused_empty}
 use Rattle.pair_core.proofs.SendFacts.{live_unspent, seen_release, IsNext, next_first, next_more}
 

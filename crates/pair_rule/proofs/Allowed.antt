@@ -9,7 +9,7 @@ use Rattle.pair_core.specs.Words.{bit}
 use Rattle.pair_core.specs.Names.{Name, Claim, Release, Take, Return, Piece, Fits, number, claim_words, take_words}
 use Rattle.pair_core.specs.Core.{IsMarker}
 use Rattle.pair_core.specs.Reading.{part_bit, IsFull}
-use Rattle.pair_core.specs.Moves.{Move, StorePiece, StoreClaim, LoadClaim, LoadPiece, LoadRelease, ShutClaim, TryClaim, LayPiece, StoreReturn, StoreTake, TakePart, ReturnPart, StoreRelease, Split, Rise, Join, IsAllowed, IsSendIdle, IsRecvIdle, IsRecvActive, last_round_number, MayShut, MayClaim, MayLay, AreSeen}
+use Rattle.pair_core.specs.Moves.{Move, StorePiece, StoreClaim, LoadClaim, LoadPiece, LoadRelease, ShutClaim, TryClaim, LayPiece, StoreReturn, StoreTake, TakePart, ReturnPart, StoreRelease, Split, Rise, Join, IsAllowed, IsSendIdle, IsRecvIdle, IsRecvActive, MayShut, MayClaim, MayLay, AreSeen}
 use Rattle.pair_core.specs.Sound.{Sound}
 use Rattle.pair_core.specs.declared.view.Pending.{Pending}
 use Rattle.pair_core.specs.declared.view.SendSide.{SendSide}

@@ -11,7 +11,7 @@ use Rattle.pair_core.specs.Names.{Name, Claim, Release, Take, Return, Piece, Fit
 use Rattle.pair_core.specs.Core.{Core}
 use Rattle.pair_core.specs.Reading.{part_bit, IsFull}
 use Rattle.pair_core.specs.Steps.{saw, wrote, loads, stores_piece, stores_claim, shuts_claim, stores_return, stores_take, releases}
-use Rattle.pair_core.specs.Moves.{Move, StorePiece, StoreClaim, LoadClaim, LoadPiece, LoadRelease, ShutClaim, LayPiece, StoreReturn, StoreTake, StoreRelease, IsAllowed, after, last_round_number, IsSendIdle, IsSendActive, IsRecvIdle, IsRecvActive, MayShut}
+use Rattle.pair_core.specs.Moves.{Move, StorePiece, StoreClaim, LoadClaim, LoadPiece, LoadRelease, ShutClaim, LayPiece, StoreReturn, StoreTake, StoreRelease, IsAllowed, after, IsSendIdle, IsSendActive, IsRecvIdle, IsRecvActive, MayShut}
 use Rattle.pair_core.specs.declared.view.SendSide.{SendSide}
 use Rattle.pair_core.specs.declared.view.RecvSide.{RecvSide}
 use Rattle.pair_core.proofs.Facts.{any_word}

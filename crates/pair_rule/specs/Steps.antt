@@ -1,6 +1,7 @@
 -- Which step a seat may make, by its own view, and what the step tells it. A step is the core's move of that name.
 use Rattle.std.specs.Prelude.{◌≡◌, ◌≢◌, ◌⊎◌, ℕ, ◌+◌, ◌*◌, ◌/◌, ◌%◌, ◌<◌, ◌≤◌, List, [], ◌∷◌, length, Option, Some, None}
 use Rattle.gate_word.specs.Words.{round_in}
+use Rattle.part_geometry.specs.declared.TheConstants.{LAST_ROUND}
 use Rattle.part_geometry.specs.Shape.{Shape}
 use Rattle.part_geometry.specs.Pieces.{pieces}
 use Rattle.atomic_table.specs.Table.{Me, Step}
@@ -10,7 +11,7 @@ use Rattle.pair_rule.specs.Rule.{cell_length}
 use Rattle.pair_core.specs.Names.{Name, Claim, Release, Take, Return, Piece, claim_words, take_words}
 use Rattle.pair_core.specs.Core.{IsMarker}
 use Rattle.pair_core.specs.Reading.{part_bit}
-use Rattle.pair_core.specs.Moves.{Move, StorePiece, StoreClaim, LoadClaim, LoadPiece, LoadRelease, ShutClaim, TryClaim, LayPiece, StoreReturn, StoreTake, TakePart, ReturnPart, StoreRelease, Split, Rise, Join, last_round_number, IsSendIdle, IsRecvIdle, IsRecvActive, MayShut, MayClaim, MayLay, AreSeen}
+use Rattle.pair_core.specs.Moves.{Move, StorePiece, StoreClaim, LoadClaim, LoadPiece, LoadRelease, ShutClaim, TryClaim, LayPiece, StoreReturn, StoreTake, TakePart, ReturnPart, StoreRelease, Split, Rise, Join, IsSendIdle, IsRecvIdle, IsRecvActive, MayShut, MayClaim, MayLay, AreSeen}
 use Rattle.pair_core.specs.declared.view.Pending.{Pending}
 use Rattle.pair_rule.specs.Buf.{Buf}
 use Rattle.pair_rule.specs.Views.{seen}
@@ -19,7 +20,7 @@ use Rattle.pair_rule.specs.declared.view.View.{View}
 -- The condition of each step, in terms of what the seat knows: it says that the core allows the step.
 abbrev pub MayMake : View → Move (List ℕ) → Type 0
 MayMake d (StorePiece k i) =
-    (d.number ≡ 0) × (i < pieces d.geometry) × (k ≤ last_round_number) × (k ≤ round_in (seen d Release) + d.geometry.depth)
+    (d.number ≡ 0) × (i < pieces d.geometry) × (k ≤ LAST_ROUND) × (k ≤ round_in (seen d Release) + d.geometry.depth)
     × (((i ≡ 0) × IsSendIdle d.geometry d.send × (k ≡ d.send.round + 1)) ⊎ ((1 ≤ i) × (i ≡ d.send.pieces) × (k ≡ d.send.round)))
 MayMake d (StoreClaim k c) =
     (d.number ≡ 0) × (c < claim_words d.geometry) × (k ≡ d.send.round) × (d.send.pieces ≡ pieces d.geometry) × (c ≡ d.send.opened)
@@ -32,7 +33,7 @@ MayMake d (ShutClaim c) =
 MayMake d (TryClaim n p b) = (d.number ≡ n) × IsMarker n × (p < d.geometry.send_parts) × (d.pending ≡ None) × MayClaim (seen d) p
 MayMake d (LayPiece n p i) = (d.number ≡ n) × ((x : Pending) × (d.pending ≡ Some x) × MayLay d.geometry x p i)
 MayMake d (StoreReturn k t) =
-    (d.number ≡ 1) × (t < take_words d.geometry) × (k ≤ last_round_number)
+    (d.number ≡ 1) × (t < take_words d.geometry) × (k ≤ LAST_ROUND)
     × (((t ≡ 0) × IsRecvIdle d.recv × (k ≡ d.recv.round + 1)) ⊎ ((1 ≤ t) × (t ≡ d.recv.returns) × (k ≡ d.recv.round)))
 MayMake d (StoreTake k t) =
     (d.number ≡ 1) × (t < take_words d.geometry) × (k ≡ d.recv.round) × (d.recv.returns ≡ take_words d.geometry) × (t ≡ d.recv.takes)
