@@ -1,11 +1,12 @@
 -- What a layer above may rest on in a sound state, a sentence a fact: each is of one state, or of one move from it.
 use Rattle.std.specs.Prelude.{◌≡◌, ◌≢◌, ◌⊎◌, ℕ, ◌/◌, ◌%◌, ◌<◌, ◌≤◌, Some, None, false}
 use Rattle.gate_word.specs.Words.{round_in}
+use Rattle.gate_word.specs.Order.{IsLater}
 use Rattle.part_geometry.specs.Shape.{Shape}
 use Rattle.part_geometry.specs.Cells.{cells, send_of, recv_of}
 use Rattle.part_geometry.specs.Pieces.{pieces, piece_of, Touches}
 use Rattle.pair_core.specs.Words.{bit}
-use Rattle.pair_core.specs.Names.{Claim, Return, Piece, claim_words}
+use Rattle.pair_core.specs.Names.{Name, Claim, Return, Piece, claim_words, Fits}
 use Rattle.pair_core.specs.Core.{Core, Home, Out, IsMarker, has, times}
 use Rattle.pair_core.specs.Reading.{part_bit, next_round, IsFull}
 use Rattle.pair_core.specs.Steps.{enters}

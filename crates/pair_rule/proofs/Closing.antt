@@ -17,13 +17,14 @@ use Rattle.pair_core.specs.Names.{Name, Claim, Release, Fits, number, claim_word
 use Rattle.pair_core.specs.Core.{Core, IsMarker, IsWatcher, is_mark, times}
 use Rattle.pair_core.specs.Moves.{IsSendIdle, IsRecvIdle}
 use Rattle.pair_core.specs.Sound.{Sound, Counts, occurrences}
+use Rattle.pair_core.specs.State.{word_count}
 use Rattle.pair_core.specs.Facts.{StateFacts}
 use Rattle.pair_core.specs.declared.view.Mark.{Mark}
 use Rattle.pair_core.specs.declared.view.SendSide.{SendSide}
 use Rattle.pair_core.specs.declared.view.RecvSide.{RecvSide}
 use Rattle.pair_core.specs.declared.view.Life.{Life}
 use Rattle.pair_core.specs.declared.view.Life.TheVariants.{Live}
-use Rattle.pair_rule.specs.Rule.{At, Shown, Given, Agrees, Rule, bytes_of, IsWhole, Ended, Holds}
+use Rattle.pair_rule.specs.Rule.{At, Shown, Given, Agrees, Rule, MayMark, bytes_of, IsWhole, AreCounted, Ended, Holds}
 use Rattle.pair_rule.specs.First.{spent, closed}
 use Rattle.pair_rule.specs.declared.view.View.{View}
 use Rattle.pair_rule.specs.declared.view.Standing.TheVariants.{Seated, Closed}
@@ -50,16 +51,20 @@ part_bytes-same g v f h q inside same =
 abbrev either_bytes : Mark (List ℕ) → List ℕ → Bool → List ℕ
 either_bytes m rest b = if b then m.with else rest
 
--- the bytes of a round and a partition that a list of marks has
+-- the bytes of a round and a partition that a list of marks has are those of a mark in it
+pub bytes_in : (k p : ℕ) (ms : List (Mark (List ℕ))) → 1 ≤ times k p ms
+    → (m : Mark (List ℕ)) × Contains ms m × (m.round ≡ k) × (m.partition ≡ p) × (bytes_of ms k p ≡ m.with)
+bytes_in k p [] h = absurd (omega arith)
+bytes_in k p (m ∷ ms) h = ⊎_elim
+    (λ (e : is_mark k p m ≡ true). let both = both_true (m.round == k) (m.partition == p) e in
+      (m, in_first m ms, eqb-true m.round k both.0, eqb-true m.partition p both.1, ap (either_bytes m (bytes_of ms k p)) e))
+    (λ (e : is_mark k p m ≡ false). let z = none_if (is_mark k p m) e in let r = bytes_in k p ms (omega (arith, z)) in
+      (r.0, in_rest m r.0 ms r.1, r.2, r.3, ap (either_bytes m (bytes_of ms k p)) e ∙ r.4))
+    (cases (is_mark k p m))
+
 marks_bytes : (bytes : ℕ → ℕ → List ℕ) (k p : ℕ) (ms : List (Mark (List ℕ))) → 1 ≤ times k p ms → ((m : Mark (List ℕ)) → Contains ms m → m.with ≡ bytes m.round m.partition)
     → bytes_of ms k p ≡ bytes k p
-marks_bytes bytes k p [] h all = absurd (omega arith)
-marks_bytes bytes k p (m ∷ ms) h all = ⊎_elim
-    (λ (e : is_mark k p m ≡ true). let both = both_true (m.round == k) (m.partition == p) e in
-      ap (either_bytes m (bytes_of ms k p)) e ∙ (all m (in_first m ms) ∙ (λ i. bytes (eqb-true m.round k both.0 i) (eqb-true m.partition p both.1 i))))
-    (λ (e : is_mark k p m ≡ false). let z = none_if (is_mark k p m) e in
-      ap (either_bytes m (bytes_of ms k p)) e ∙ marks_bytes bytes k p ms (omega (arith, z)) (λ x held. all x (in_rest m x ms held)))
-    (cases (is_mark k p m))
+marks_bytes bytes k p ms h all = let m = bytes_in k p ms h in m.4 ∙ (all m.0 m.1 ∙ (λ i. bytes (m.2 i) (m.3 i)))
 
 -- where none of a sort is left
 none_left : (sort : ℕ → Type 0) (life : ℕ → Life) (count n : ℕ) → Counts sort life count → count ≡ 0 → sort n → life n ≢ Live
@@ -124,10 +129,14 @@ module _ {T : Type 0} (may : T → ℕ → ℕ → ℕ → Type 0) (key : Key T)
     abbrev view : View
     view = closed d e
 
-    whole : IsWhole may key s.words view
-    whole = record {
+    counted : AreCounted may key s.words view
+    counted = record {
       sent = ap round_in (r.words (Claim 0) some_words) ∙ ((r.sound.gates.is_shut 0 (let i = idle' in let w = some_words in omega arith)).0 ∙ sym (ap (λ (z : SendSide). z.round) send));
       received = ap round_in (r.words Release tt) ∙ ((let c = r.sound.progress.current in let n = rests' in omega arith) ∙ sym (ap (λ (z : RecvSide). z.round) recv));
+    }
+
+    whole : IsWhole may key view
+    whole = record {
       behind = subst (λ (z : SendSide × RecvSide). z.1.round ≤ z.0.round) (λ i. (sym send i, sym recv i)) (f.received_sent r.core r.sound rests');
       all_marked = λ k p low high inside. ap (times k p) marks ∙ f.all_marked r.core k p r.sound none' idle' low (subst (λ (z : SendSide). k ≤ z.round) send high) inside;
       only_marked = λ k p h. subst (λ (z : SendSide). (1 ≤ k) × (k ≤ z.round) × (p < G.send_parts)) (sym send) (f.only_marked r.core 0 k p r.sound (subst (λ (z : List (Mark (List ℕ))). 1 ≤ times k p z) marks h));
@@ -163,7 +172,13 @@ module _ {T : Type 0} (may : T → ℕ → ℕ → ℕ → Type 0) (key : Key T)
       whole = λ i f is shut. ⊎_elim
           (λ (u : spent ≡ f). let no : spent.standing ≡ Closed = ap (λ (z : View). z.standing) u ∙ shut in absurd (cc))
           (λ (y : ((i ≡ id) × (view ≡ f)) ⊎ ((i ≢ id) × (i ≢ other) × (get_elem? s.views i ≡ some f))). ⊎_elim
-            (λ (u : (i ≡ id) × (view ≡ f)). subst (IsWhole may key s.words) u.1 whole)
+            (λ (u : (i ≡ id) × (view ≡ f)). subst (IsWhole may key) u.1 whole)
+            (λ (u : (i ≢ id) × (i ≢ other) × (get_elem? s.views i ≡ some f)). absurd (r.running i f u.2 shut)) y)
+          (which i f is);
+      counted = λ i f is shut. ⊎_elim
+          (λ (u : spent ≡ f). let no : spent.standing ≡ Closed = ap (λ (z : View). z.standing) u ∙ shut in absurd (cc))
+          (λ (y : ((i ≡ id) × (view ≡ f)) ⊎ ((i ≢ id) × (i ≢ other) × (get_elem? s.views i ≡ some f))). ⊎_elim
+            (λ (u : (i ≡ id) × (view ≡ f)). subst (AreCounted may key s.words) u.1 counted)
             (λ (u : (i ≢ id) × (i ≢ other) × (get_elem? s.views i ≡ some f)). absurd (r.running i f u.2 shut)) y)
           (which i f is);
     } where
@@ -189,6 +204,7 @@ module _ {T : Type 0} (may : T → ℕ → ℕ → ℕ → Type 0) (key : Key T)
     size = o.size;
     shape = o.shape;
     whole = λ i f is. o.whole (from i f is).0 f (from i f is).1;
+    counted = λ i f is. o.counted (from i f is).0 f (from i f is).1;
   }) where
     from : (i : ℕ) (f : View) → get_elem? (set s.views id d ++ d ∷ []) i ≡ some f → (j : ℕ) × (get_elem? s.views j ≡ some f)
     from i f is = ⊎_elim
@@ -197,3 +213,15 @@ module _ {T : Type 0} (may : T → ℕ → ℕ → ℕ → Type 0) (key : Key T)
           (λ (v : (i ≢ id) × (get_elem? s.views i ≡ some f)). (i, v.1)) (at_set s.views id i d f u))
         (λ (u : (i ≡ length (set s.views id d)) × (d ≡ f)). (id, at ∙ ap (λ (z : View). some z) u.1))
         (at_end (set s.views id d) d f i is)
+
+  -- what the table of a closed pair says of a view of it
+  pub told_whole : (s : At) (i : ℕ) (d : View) → Holds may key s → get_elem? s.views i ≡ some d → d.standing ≡ Closed → IsWhole may key d × AreCounted may key s.words d × (length s.words ≡ word_count G)
+  told_whole s i d (inl r) at shut = absurd (r.running i d at shut)
+  told_whole s i d (inr o) at shut = (o.whole i d at shut, o.counted i d at shut, o.size)
+
+  -- the bytes of a round and a partition were marked there
+  pub round_bytes : (d : View) → IsWhole may key d → (k p : ℕ) → 1 ≤ k → k ≤ d.send.round → p < G.send_parts → MayMark may key k p (bytes_of d.marks k p)
+  round_bytes d h k p low high inside =
+      let one = h.all_marked k p low high inside in
+      let m = bytes_in k p d.marks (omega (arith, one)) in
+      subst (λ (z : (ℕ × ℕ) × List ℕ). MayMark may key z.0.0 z.0.1 z.1) (λ i. ((m.2 i, m.3 i), sym m.4 i)) (h.may_be m.0 m.1)

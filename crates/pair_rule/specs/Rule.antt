@@ -136,25 +136,30 @@ bytes_of [] k p = []
 bytes_of (m ∷ ms) k p = if is_mark k p m then m.with else bytes_of ms k p
 
 module _ {T : Type 0} (may : T → ℕ → ℕ → ℕ → Type 0) where
-  -- the view of a pair that was closed: each partition of each round was marked once, with bytes that may be, and of each round up to
-  -- the receiver's each partition was taken once, with the bytes that were marked there
-  pub record IsWhole (key : Key T) (words : List ℕ) (d : View) : Type 0 where
-    pub sent : round_in (slice_index words (number key.geometry (Claim 0))) ≡ d.send.round
-    pub received : round_in (slice_index words (number key.geometry Release)) ≡ d.recv.round
+  -- What the view of a closed pair says: each partition of each round up to the sender's was marked once, with bytes that may be, and
+  -- each one of each round up to the receiver's was taken once, with the bytes that were marked there.
+  pub record IsWhole (key : Key T) (d : View) : Type 0 where
     pub behind : d.recv.round ≤ d.send.round
     pub all_marked : (k p : ℕ) → 1 ≤ k → k ≤ d.send.round → p < key.geometry.send_parts → times k p d.marks ≡ 1
     pub only_marked : (k p : ℕ) → 1 ≤ times k p d.marks → (1 ≤ k) × (k ≤ d.send.round) × (p < key.geometry.send_parts)
     pub may_be : (m : Mark (List ℕ)) → Contains d.marks m → MayMark may key m.round m.partition m.with
     pub all_taken : (k q : ℕ) → 1 ≤ k → k ≤ d.recv.round → q < key.geometry.recv_parts → times k q d.takes ≡ 1
     pub only_taken : (k q : ℕ) → 1 ≤ times k q d.takes → (1 ≤ k) × (k ≤ d.recv.round) × (q < key.geometry.recv_parts)
-    pub takes_are : (t : Mark (List ℕ)) → Contains d.takes t → t.with ≡ part_bytes key.geometry (bytes_of d.marks t.round) t.partition
+    pub takes_are : (t : Mark (List ℕ)) → Contains d.takes t
+        → t.with ≡ part_bytes key.geometry (bytes_of d.marks t.round) t.partition
+
+  -- the sides' rounds stand in claim word 0 and in the release word
+  pub record AreCounted (key : Key T) (words : List ℕ) (d : View) : Type 0 where
+    pub sent : round_in (slice_index words (number key.geometry (Claim 0))) ≡ d.send.round
+    pub received : round_in (slice_index words (number key.geometry Release)) ≡ d.recv.round
 
   -- the table of a pair that was closed: no seat steps any more
   pub record Ended (key : Key T) (s : At) : Type 0 where
     pub over : (i : ℕ) (d : View) → get_elem? s.views i ≡ some d → d.standing ≢ Seated
-    pub size : length s.words ≡ word_count key.geometry
     pub shape : IsShape key.geometry
-    pub whole : (i : ℕ) (d : View) → get_elem? s.views i ≡ some d → d.standing ≡ Closed → IsWhole key s.words d
+    pub size : length s.words ≡ word_count key.geometry
+    pub whole : (i : ℕ) (d : View) → get_elem? s.views i ≡ some d → d.standing ≡ Closed → IsWhole key d
+    pub counted : (i : ℕ) (d : View) → get_elem? s.views i ≡ some d → d.standing ≡ Closed → AreCounted key s.words d
 
   -- the rule of the table, of a running pair or of one that was closed
   abbrev pub Holds : Key T → At → Type 0

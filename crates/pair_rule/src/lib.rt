@@ -8,6 +8,7 @@ mod plays;
 mod rule;
 mod seats;
 mod send;
+mod join;
 mod split;
 mod view;
 mod words;

@@ -174,6 +174,86 @@ impl<C: Content> Model for Note<C> {
     ghost invariant = { λ s. (s.seat.me.0.standing ≡ Told) × (s.seat.me.1 ≡ []) };
 }
 
+impl<C: Content> SendSeat<C> {
+    ghost use Rattle.std.specs.Prelude.{false};
+    ghost use Rattle.pair_rule.specs.declared.view.Standing.TheVariants.{Seated};
+
+    /// The seat of the table alone.
+    pub(crate) fn into_place(self) -> Place
+        ensures place { (result.table_id ≡ self.table) × (result.me ≡ (self.view, [])) }
+        ensures live { (self.view.standing ≡ Seated) × (self.view.number ≡ 0) × (self.view.alone ≡ false) }
+    {
+        let SendSeat { seat, content: _ } = self;
+        seat
+    }
+}
+
+impl<C: Content> MarkSeat<C> {
+    ghost use Rattle.pair_core.specs.Core.{IsMarker};
+    ghost use Rattle.pair_rule.specs.declared.view.Standing.TheVariants.{Seated};
+    ghost use Rattle.slot_rows.specs.Lists.{row};
+
+    /// The seat of the table alone.
+    pub(crate) fn into_place(self) -> Place
+        ensures place { (result.table_id ≡ self.table) × (result.me ≡ (self.view, row self.first self.out)) }
+        ensures live { (self.view.standing ≡ Seated) × IsMarker self.view.number }
+    {
+        let MarkSeat {
+            seat,
+            first: _,
+            count: _,
+            content: _,
+        } = self;
+        seat
+    }
+}
+
+impl<C: Content> WatchSeat<C> {
+    ghost use Rattle.pair_core.specs.Core.{IsWatcher};
+    ghost use Rattle.pair_rule.specs.declared.view.Standing.TheVariants.{Seated};
+
+    /// The seat of the table alone.
+    pub(crate) fn into_place(self) -> Place
+        ensures place { (result.table_id ≡ self.table) × (result.me ≡ (self.view, [])) }
+        ensures live { (self.view.standing ≡ Seated) × IsWatcher self.view.number }
+    {
+        let WatchSeat { seat, content: _ } = self;
+        seat
+    }
+}
+
+impl<C: Content> RecvSeat<C> {
+    ghost use Rattle.pair_rule.specs.Seats.{AreLanes};
+    ghost use Rattle.pair_rule.specs.declared.view.Standing.TheVariants.{Seated};
+
+    /// The seat of the table alone.
+    pub(crate) fn into_place(self) -> Place
+        ensures place { (result.table_id ≡ self.table) × (result.me ≡ (self.view, self.slots)) }
+        ensures live { (self.view.standing ≡ Seated) × (self.view.number ≡ 1) × AreLanes self.view (length self.slots) self.lanes }
+    {
+        let RecvSeat {
+            seat,
+            lanes: _,
+            shelves: _,
+            content: _,
+        } = self;
+        seat
+    }
+}
+
+impl<C: Content> Note<C> {
+    ghost use Rattle.pair_rule.specs.declared.view.Standing.TheVariants.{Told};
+
+    /// The seat of the table alone.
+    pub(crate) fn into_place(self) -> Place
+        ensures place { (result.table_id ≡ self.table) × (result.me ≡ (self.view, [])) }
+        ensures live { self.view.standing ≡ Told }
+    {
+        let Note { seat, content: _ } = self;
+        seat
+    }
+}
+
 impl<C: Content> Drop for SendSeat<C> {
     fn drop(self) {
         let SendSeat {
