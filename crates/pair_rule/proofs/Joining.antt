@@ -1,6 +1,8 @@
 -- A seat is joined into its side: the side's view rises to what both have seen, and the core's join gives it the other's marks.
 use Rattle.std.proofs.Common.{◌≡◌, ◌≢◌, ◌⊎◌, inl, inr, ⊎_elim, ℕ, zero, suc, ◌+◌, ◌-◌, ◌*◌, ◌%◌, ◌<◌, ◌≤◌, Bool, true, false, ◌==◌, List, [], ◌∷◌, ◌++◌, length, get_or, set, Contains, Option, Some, None, refl, sym, ap, ◌∙◌, subst, arith, length-set}
+use Rattle.std.specs.Prelude.{if◌then◌else◌}
 use Rattle.std.proofs.lemmas.Bool.{eq-eqb, ne_eqb}
+use Rattle.std.proofs.lemmas.List.FromFn.{length-map-range_with_len, get_or-map-range_with_len}
 use mathlib.Core.Logic.{dite}
 use mathlib.Core.Option.{some, some-injective}
 use native.Mathlib.Decide.{ℕ_discrete}
@@ -24,11 +26,11 @@ use Rattle.pair_core.specs.declared.view.SendSide.{SendSide}
 use Rattle.pair_core.specs.declared.view.RecvSide.{RecvSide}
 use Rattle.pair_core.specs.declared.view.Life.{Life}
 use Rattle.pair_core.specs.declared.view.Life.TheVariants.{Blank, Live, Spent}
-use Rattle.pair_core.proofs.Facts.{put_here, put_else, put_cases, any_word, number_lt}
+use Rattle.pair_core.proofs.Facts.{put_here, put_else, put_cases, any_word, number_lt, later_refl}
 use Rattle.slot_rows.proofs.Lists.{at_split}
 use Rattle.pair_rule.specs.Rule.{At, Shown, slot_number, Stands, Given, Agrees, Tells, Rule, Holds}
 use Rattle.pair_rule.specs.First.{spent, with_marker_back, with_watcher_back}
-use Rattle.pair_rule.specs.Views.{joined_words}
+use Rattle.pair_rule.specs.Views.{is_own, told_word}
 use Rattle.pair_rule.specs.Views as view
 use Rattle.pair_rule.specs.declared.view.View.{View}
 use Rattle.pair_rule.specs.declared.view.Standing.TheVariants as stand
@@ -38,17 +40,6 @@ use Rattle.pair_rule.proofs.Bridge.{one_not_alone}
 use Rattle.pair_rule.proofs.Splitting.{risen, risen_here, risen_else, beside}
 use Rattle.pair_rule.proofs.Marks.{in_both, in_none}
 use Rattle.pair_rule.proofs.SideSteps.{of_running}
-
-pub joined_length : (vs ws : List ℕ) → length vs ≡ length ws → length (joined_words vs ws) ≡ length vs
-joined_length [] ws e = refl
-joined_length (v ∷ vs) [] e = refl
-joined_length (v ∷ vs) (w ∷ ws) e = ap suc (joined_length vs ws (omega arith))
-
-pub joined_at : (vs ws : List ℕ) (i : ℕ) → length vs ≡ length ws → i < length vs → get_or (joined_words vs ws) i 0 ≡ join_of (get_or vs i 0) (get_or ws i 0)
-joined_at [] ws i e inside = absurd (omega arith)
-joined_at (v ∷ vs) [] i e inside = absurd (omega arith)
-joined_at (v ∷ vs) (w ∷ ws) zero e inside = refl
-joined_at (v ∷ vs) (w ∷ ws) (suc i) e inside = joined_at vs ws i (omega arith) (omega arith)
 
 -- the seat n is gone from the core, and of the others the seat `of` has another view
 pub record Gone (c c' : Shown) (of n : ℕ) : Type 0 where
@@ -158,34 +149,26 @@ module _ {T : Type 0} (may : T → ℕ → ℕ → ℕ → Type 0) (key : Key T)
         takes = λ k h. r.takes k (subst (λ (z : List (Mark (List ℕ))). Contains z k) gone.takes h);
       }
 
-  -- the seat `of` is told of words that were so
-  module _ (L : CoreLaws G) (law : IsJoin) (c : Shown) (sound : Sound G c) (of : ℕ) (alive : c.life of ≡ Live) (f : Name → ℕ) (below : (x : Name) → Fits G x → IsLater (f x) (c.word x)) where
-    abbrev both : Name → ℕ
-    both x = join_of (c.seen of x) (f x)
-
+  -- the seat `of` is told of words between what it has seen and what is
+  module _ (L : CoreLaws G) (c : Shown) (sound : Sound G c) (of : ℕ) (alive : c.life of ≡ Live) (f : Name → ℕ)
+      (between : (x : Name) → Fits G x → IsLater (c.seen of x) (f x) × IsLater (f x) (c.word x)) where
     abbrev w : Name → ℕ
-    w = risen G both (c.seen of)
+    w = risen G f (c.seen of)
 
     abbrev pub told : Shown
     told = rises of w 0 c
 
-    unspent : c.life of ≢ Spent
-    unspent gone = absurd (cc)
-
     pub told_sound : Sound G told
     told_sound = L.kept c (Rise of w 0) sound (
         alive,
-        λ x fits. let here : w x ≡ both x = risen_here G both (c.seen of) x fits in
-          let least = law.least (c.seen of x) (f x) in (
-            subst (IsLater (c.seen of x)) (sym here) least.first,
-            subst (λ (z : ℕ). IsLater z (c.word x)) (sym here) (least.least (c.word x) (sound.seen.present of x unspent fits) (below x fits)),
-          ),
+        λ x fits. let here : f x ≡ w x = sym (risen_here G f (c.seen of) x fits) in
+          subst (λ (z : ℕ). IsLater (c.seen of x) z × IsLater z (c.word x)) here (between x fits),
         omega arith,
-        λ x fits. risen_else G both (c.seen of) x fits,
+        λ x fits. risen_else G f (c.seen of) x fits,
       )
 
-    pub told_sees : (x : Name) → Fits G x → told.seen of x ≡ both x
-    told_sees x fits = ap (λ (g : Name → ℕ). g x) (put_here c.seen of w) ∙ risen_here G both (c.seen of) x fits
+    pub told_sees : (x : Name) → Fits G x → told.seen of x ≡ f x
+    told_sees x fits = ap (λ (g : Name → ℕ). g x) (put_here c.seen of w) ∙ risen_here G f (c.seen of) x fits
 
     pub told_seen_else : (m : ℕ) → m ≢ of → (x : Name) → told.seen m x ≡ c.seen m x
     told_seen_else m o x = ap (λ (g : Name → ℕ). g x) (put_else c.seen of w m o)
@@ -195,6 +178,37 @@ module _ {T : Type 0} (may : T → ℕ → ℕ → ℕ → Type 0) (key : Key T)
       (λ is. ap (λ (z : ℕ). told.looks z x) is ∙ (ap (λ (g : Name → ℕ). g x) (put_here c.looks of (put_word (Claim 0) (c.looks of (Claim 0) + 0) (c.looks of)))
         ∙ (any_word (Claim 0) x (c.looks of (Claim 0) + 0) (c.looks of) (λ y v. v ≡ c.looks of y) (omega arith) (λ y. refl) ∙ ap (λ (z : ℕ). c.looks z x) (sym is))))
       (λ o. ap (λ (g : Name → ℕ). g x) (put_else c.looks of (put_word (Claim 0) (c.looks of (Claim 0) + 0) (c.looks of)) m o))
+
+  -- the words that a view has seen once it is told what another has seen
+  module _ (law : IsJoin) (s : At) (r : Rule may key s) (id : ℕ) (d e : View) (a : Agrees G r.core r.alone r.markers r.watchers r.seat id d)
+      (below : (x : Name) → Fits G x → IsLater (get_or e.seen (number G x) 0) (r.core.word x)) where
+    pub heard : Name → ℕ
+    heard x = told_word d e (number G x)
+
+    either : Bool → ℕ → ℕ → ℕ
+    either b v u = if b then v else join_of v u
+
+    either_between : (b : Bool) (v u top : ℕ) → IsLater v top → IsLater u top → IsLater v (either b v u) × IsLater (either b v u) top
+    unfolding either
+    either_between true v u top low high = (later_refl v, low)
+    either_between false v u top low high = let least = law.least v u in (least.first, least.least top low high)
+
+    pub heard_between : (x : Name) → Fits G x → IsLater (r.core.seen d.number x) (heard x) × IsLater (heard x) (r.core.word x)
+    unfolding heard either
+    heard_between x fits =
+        let unspent : r.core.life d.number ≢ Spent = λ gone. let alive = a.live in absurd (cc) in
+        let is : get_or d.seen (number G x) 0 ≡ r.core.seen d.number x = a.seen_is x fits in
+        let top : IsLater (get_or d.seen (number G x) 0) (r.core.word x) = subst (λ (z : ℕ). IsLater z (r.core.word x)) (sym is) (r.sound.seen.present d.number x unspent fits) in
+        let both = either_between (is_own d (number G x)) (get_or d.seen (number G x) 0) (get_or e.seen (number G x) 0) (r.core.word x) top (below x fits) in
+        (subst (λ (z : ℕ). IsLater z (heard x)) is both.0, both.1)
+
+    pub heard_at : (x : Name) → Fits G x → get_or (view.told d e).seen (number G x) 0 ≡ heard x
+    unfolding heard
+    heard_at x fits = get_or-map-range_with_len (told_word d e) 0 (word_count d.geometry) (number G x) (number G x) 0
+        (subst (λ (z : Shape). number G x < word_count z) (sym a.geometry) (number_lt G x fits)) (let e : 0 + number G x ≡ number G x = omega arith in e)
+
+    pub heard_size : length (view.told d e).seen ≡ word_count G
+    heard_size = length-map-range_with_len (told_word d e) 0 (word_count d.geometry) ∙ ap word_count a.geometry
 
   -- a watcher has no claim
   no_claim : CoreLaws G → (c : Shown) → Sound G c → (n : ℕ) → IsWatcher n → (o : Option Pending) → c.pending n ≡ o → c.pending n ≡ None
@@ -214,9 +228,13 @@ module _ {T : Type 0} (may : T → ℕ → ℕ → ℕ → Type 0) (key : Key T)
       let a = r.seats id d at live in let b = r.seats other e there' live' in
       let n : ℕ = e.number in
       let alive : r.core.life 0 ≡ Live = r.sound.lives.send in
-      let below : (x : Name) → Fits G x → IsLater (r.core.seen n x) (r.core.word x) = λ x fits. r.sound.seen.present n x (λ z. let l = b.live in absurd (cc)) fits in
-      let t : Shown = told L law r.core r.sound 0 alive (r.core.seen n) below in
-      let sound1 = told_sound L law r.core r.sound 0 alive (r.core.seen n) below in
+      let below : (x : Name) → Fits G x → IsLater (get_or e.seen (number G x) 0) (r.core.word x) = λ x fits.
+        subst (λ (z : ℕ). IsLater z (r.core.word x)) (sym (b.seen_is x fits)) (r.sound.seen.present n x (λ z. let l = b.live in absurd (cc)) fits) in
+      let f : Name → ℕ = heard law s r id d e a below in
+      let between : (x : Name) → Fits G x → IsLater (r.core.seen 0 x) (f x) × IsLater (f x) (r.core.word x) = λ x fits.
+        subst (λ (z : ℕ). IsLater (r.core.seen z x) (f x) × IsLater (f x) (r.core.word x)) zeroth (heard_between law s r id d e a below x fits) in
+      let t : Shown = told L r.core r.sound 0 alive f between in
+      let sound1 = told_sound L r.core r.sound 0 alive f between in
       let c' : Shown = joined true G n t in
       let sound2 : Sound G c' = subst (λ (z : Bool). Sound G (joined z G n t)) (eq-eqb (n % 2) 0 marker.1) (L.kept t (Join n) sound1 (marker.0, b.live, sym b.pending_is ∙ none)) in
       let low : 2 ≤ n = marker.0 in
@@ -229,8 +247,8 @@ module _ {T : Type 0} (may : T → ℕ → ℕ → ℕ → Type 0) (key : Key T)
         slot = λ f i. refl;
         life_gone = put_here t.life n Spent;
         life = λ m o. put_else t.life n Spent m o;
-        seen = λ m o p x. let p' : m ≢ 0 = λ z. p (z ∙ sym zeroth) in sym (ap (λ (f : Name → ℕ). f x) (put_else t.seen n (first_word G) m o) ∙ told_seen_else L law r.core r.sound 0 alive (r.core.seen n) below m p' x);
-        looks = λ m o p x. sym (ap (λ (f : Name → ℕ). f x) (put_else t.looks n (λ y. 0) m o) ∙ told_looks L law r.core r.sound 0 alive (r.core.seen n) below m x);
+        seen = λ m o p x. let p' : m ≢ 0 = λ z. p (z ∙ sym zeroth) in sym (ap (λ (f : Name → ℕ). f x) (put_else t.seen n (first_word G) m o) ∙ told_seen_else L r.core r.sound 0 alive f between m p' x);
+        looks = λ m o p x. sym (ap (λ (f : Name → ℕ). f x) (put_else t.looks n (λ y. 0) m o) ∙ told_looks L r.core r.sound 0 alive f between m x);
         pending = λ m. refl;
         marks = λ m o p. let p' : m ≢ 0 = λ z. p (z ∙ sym zeroth) in put_else (put t.marks 0 (t.marks n ++ t.marks 0)) n [] m o ∙ put_else t.marks 0 (t.marks n ++ t.marks 0) m p';
         marked = λ m k held. dite (ℕ_discrete m n)
@@ -248,14 +266,12 @@ module _ {T : Type 0} (may : T → ℕ → ℕ → ℕ → Type 0) (key : Key T)
           seat_is = a.seat_is;
           given = a.given;
           live = put_else t.life n Spent d.number (λ z. absurd (omega arith)) ∙ a.live;
-          seen_size = joined_length d.seen e.seen (a.seen_size ∙ sym b.seen_size) ∙ a.seen_size;
+          seen_size = heard_size law s r id d e a below;
           looks_size = a.looks_size;
-          seen_is = λ x fits. joined_at d.seen e.seen (number G x) (a.seen_size ∙ sym b.seen_size) (subst (λ (z : ℕ). number G x < z) (sym a.seen_size) (number_lt G x fits))
-            ∙ (ap (λ (z : ℕ). join_of z (get_or e.seen (number G x) 0)) (a.seen_is x fits ∙ ap (λ (z : ℕ). r.core.seen z x) zeroth)
-            ∙ (ap (join_of (r.core.seen 0 x)) (b.seen_is x fits)
-            ∙ sym (ap (λ (z : ℕ). c'.seen z x) zeroth ∙ (ap (λ (f : Name → ℕ). f x) (put_else t.seen n (first_word G) 0 o0) ∙ told_sees L law r.core r.sound 0 alive (r.core.seen n) below x fits))));
+          seen_is = λ x fits. heard_at law s r id d e a below x fits
+            ∙ sym (ap (λ (z : ℕ). c'.seen z x) zeroth ∙ (ap (λ (g : Name → ℕ). g x) (put_else t.seen n (first_word G) 0 o0) ∙ told_sees L r.core r.sound 0 alive f between x fits));
           looks_is = λ x fits. a.looks_is x fits ∙ (ap (λ (z : ℕ). r.core.looks z x) zeroth
-            ∙ sym (ap (λ (z : ℕ). c'.looks z x) zeroth ∙ (ap (λ (f : Name → ℕ). f x) (put_else t.looks n (λ y. 0) 0 o0) ∙ told_looks L law r.core r.sound 0 alive (r.core.seen n) below 0 x)));
+            ∙ sym (ap (λ (z : ℕ). c'.looks z x) zeroth ∙ (ap (λ (f : Name → ℕ). f x) (put_else t.looks n (λ y. 0) 0 o0) ∙ told_looks L r.core r.sound 0 alive f between 0 x)));
           pending_is = a.pending_is;
           marks_is = λ i. (ap (λ (z : List (Mark (List ℕ))). z ++ d.marks) b.marks_is ∙ (ap (λ (z : List (Mark (List ℕ))). r.core.marks n ++ z) (a.marks_is ∙ ap r.core.marks zeroth) ∙ sym (ap c'.marks zeroth ∙ marks_of))) i;
           send_is = λ z. ap marker_less (a.send_is z);
@@ -275,9 +291,13 @@ module _ {T : Type 0} (may : T → ℕ → ℕ → ℕ → Type 0) (key : Key T)
       let a = r.seats id d at live in let b = r.seats other e there' live' in
       let n : ℕ = e.number in
       let alive : r.core.life 1 ≡ Live = r.sound.lives.recv in
-      let below : (x : Name) → Fits G x → IsLater (r.core.seen n x) (r.core.word x) = λ x fits. r.sound.seen.present n x (λ z. let l = b.live in absurd (cc)) fits in
-      let t : Shown = told L law r.core r.sound 1 alive (r.core.seen n) below in
-      let sound1 = told_sound L law r.core r.sound 1 alive (r.core.seen n) below in
+      let below : (x : Name) → Fits G x → IsLater (get_or e.seen (number G x) 0) (r.core.word x) = λ x fits.
+        subst (λ (z : ℕ). IsLater z (r.core.word x)) (sym (b.seen_is x fits)) (r.sound.seen.present n x (λ z. let l = b.live in absurd (cc)) fits) in
+      let f : Name → ℕ = heard law s r id d e a below in
+      let between : (x : Name) → Fits G x → IsLater (r.core.seen 1 x) (f x) × IsLater (f x) (r.core.word x) = λ x fits.
+        subst (λ (z : ℕ). IsLater (r.core.seen z x) (f x) × IsLater (f x) (r.core.word x)) oneth (heard_between law s r id d e a below x fits) in
+      let t : Shown = told L r.core r.sound 1 alive f between in
+      let sound1 = told_sound L r.core r.sound 1 alive f between in
       let c' : Shown = joined false G n t in
       let odd = watcher.1 in
       let sound2 : Sound G c' = subst (λ (z : Bool). Sound G (joined z G n t)) (ne_eqb (n % 2) 0 (λ z. omega arith)) (L.kept t (Join n) sound1 (watcher.0, b.live, no_pending L r.core r.sound n watcher)) in
@@ -289,8 +309,8 @@ module _ {T : Type 0} (may : T → ℕ → ℕ → ℕ → Type 0) (key : Key T)
         slot = λ f i. refl;
         life_gone = put_here t.life n Spent;
         life = λ m o. put_else t.life n Spent m o;
-        seen = λ m o p x. let p' : m ≢ 1 = λ z. p (z ∙ sym oneth) in sym (ap (λ (f : Name → ℕ). f x) (put_else t.seen n (first_word G) m o) ∙ told_seen_else L law r.core r.sound 1 alive (r.core.seen n) below m p' x);
-        looks = λ m o p x. sym (ap (λ (f : Name → ℕ). f x) (put_else t.looks n (λ y. 0) m o) ∙ told_looks L law r.core r.sound 1 alive (r.core.seen n) below m x);
+        seen = λ m o p x. let p' : m ≢ 1 = λ z. p (z ∙ sym oneth) in sym (ap (λ (f : Name → ℕ). f x) (put_else t.seen n (first_word G) m o) ∙ told_seen_else L r.core r.sound 1 alive f between m p' x);
+        looks = λ m o p x. sym (ap (λ (f : Name → ℕ). f x) (put_else t.looks n (λ y. 0) m o) ∙ told_looks L r.core r.sound 1 alive f between m x);
         pending = λ m. refl;
         marks = λ m o p. refl;
         marked = λ m k held. (m, held);
@@ -303,14 +323,12 @@ module _ {T : Type 0} (may : T → ℕ → ℕ → ℕ → Type 0) (key : Key T)
           seat_is = a.seat_is;
           given = a.given;
           live = put_else t.life n Spent d.number (λ z. absurd (omega arith)) ∙ a.live;
-          seen_size = joined_length d.seen e.seen (a.seen_size ∙ sym b.seen_size) ∙ a.seen_size;
+          seen_size = heard_size law s r id d e a below;
           looks_size = a.looks_size;
-          seen_is = λ x fits. joined_at d.seen e.seen (number G x) (a.seen_size ∙ sym b.seen_size) (subst (λ (z : ℕ). number G x < z) (sym a.seen_size) (number_lt G x fits))
-            ∙ (ap (λ (z : ℕ). join_of z (get_or e.seen (number G x) 0)) (a.seen_is x fits ∙ ap (λ (z : ℕ). r.core.seen z x) oneth)
-            ∙ (ap (join_of (r.core.seen 1 x)) (b.seen_is x fits)
-            ∙ sym (ap (λ (z : ℕ). c'.seen z x) oneth ∙ (ap (λ (f : Name → ℕ). f x) (put_else t.seen n (first_word G) 1 o1) ∙ told_sees L law r.core r.sound 1 alive (r.core.seen n) below x fits))));
+          seen_is = λ x fits. heard_at law s r id d e a below x fits
+            ∙ sym (ap (λ (z : ℕ). c'.seen z x) oneth ∙ (ap (λ (g : Name → ℕ). g x) (put_else t.seen n (first_word G) 1 o1) ∙ told_sees L r.core r.sound 1 alive f between x fits));
           looks_is = λ x fits. a.looks_is x fits ∙ (ap (λ (z : ℕ). r.core.looks z x) oneth
-            ∙ sym (ap (λ (z : ℕ). c'.looks z x) oneth ∙ (ap (λ (f : Name → ℕ). f x) (put_else t.looks n (λ y. 0) 1 o1) ∙ told_looks L law r.core r.sound 1 alive (r.core.seen n) below 1 x)));
+            ∙ sym (ap (λ (z : ℕ). c'.looks z x) oneth ∙ (ap (λ (f : Name → ℕ). f x) (put_else t.looks n (λ y. 0) 1 o1) ∙ told_looks L r.core r.sound 1 alive f between 1 x)));
           pending_is = a.pending_is;
           marks_is = a.marks_is;
           send_is = λ z. absurd (omega arith);
@@ -328,11 +346,12 @@ module _ {T : Type 0} (may : T → ℕ → ℕ → ℕ → Type 0) (key : Key T)
       let there' : get_elem? s.views other ≡ some e = sym (set_else s.views id other (view.told d e) far) ∙ there in
       let a = r.seats id d at live in let b = r.notes other e there' said in
       let of : ℕ = d.number in
-      let f : Name → ℕ = λ x. get_or e.seen (number G x) 0 in
-      let c' : Shown = told L law r.core r.sound of a.live f b.seen_is in
+      let f : Name → ℕ = heard law s r id d e a b.seen_is in
+      let between = heard_between law s r id d e a b.seen_is in
+      let c' : Shown = told L r.core r.sound of a.live f between in
       let both' : View = view.told d e in
-      let seen' : (m : ℕ) → m ≢ of → (x : Name) → c'.seen m x ≡ r.core.seen m x = told_seen_else L law r.core r.sound of a.live f b.seen_is in
-      let looks' : (m : ℕ) (x : Name) → c'.looks m x ≡ r.core.looks m x = told_looks L law r.core r.sound of a.live f b.seen_is in
+      let seen' : (m : ℕ) → m ≢ of → (x : Name) → c'.seen m x ≡ r.core.seen m x = told_seen_else L r.core r.sound of a.live f between in
+      let looks' : (m : ℕ) (x : Name) → c'.looks m x ≡ r.core.looks m x = told_looks L r.core r.sound of a.live f between in
       let keep : (i : ℕ) (f : View) → Agrees G r.core r.alone r.markers r.watchers r.seat i f → f.number ≢ of → Agrees G c' r.alone r.markers r.watchers r.seat i f = λ i f k o.
         record {
           geometry = k.geometry;
@@ -356,10 +375,9 @@ module _ {T : Type 0} (may : T → ℕ → ℕ → ℕ → Type 0) (key : Key T)
           seat_is = a.seat_is;
           given = a.given;
           live = a.live;
-          seen_size = joined_length d.seen e.seen (a.seen_size ∙ sym b.seen_size) ∙ a.seen_size;
+          seen_size = heard_size law s r id d e a b.seen_is;
           looks_size = a.looks_size;
-          seen_is = λ x fits. joined_at d.seen e.seen (number G x) (a.seen_size ∙ sym b.seen_size) (subst (λ (z : ℕ). number G x < z) (sym a.seen_size) (number_lt G x fits))
-            ∙ (ap (λ (z : ℕ). join_of z (f x)) (a.seen_is x fits) ∙ sym (told_sees L law r.core r.sound of a.live f b.seen_is x fits));
+          seen_is = λ x fits. heard_at law s r id d e a b.seen_is x fits ∙ sym (told_sees L r.core r.sound of a.live f between x fits);
           looks_is = λ x fits. a.looks_is x fits ∙ sym (looks' of x);
           pending_is = a.pending_is;
           marks_is = a.marks_is;
@@ -382,7 +400,7 @@ module _ {T : Type 0} (may : T → ℕ → ℕ → ℕ → Type 0) (key : Key T)
         watchers = r.watchers;
         bytes = r.bytes;
         shape = r.shape;
-        sound = told_sound L law r.core r.sound of a.live f b.seen_is;
+        sound = told_sound L r.core r.sound of a.live f between;
         size = r.size;
         room = r.room;
         words = r.words;

@@ -1,11 +1,13 @@
 -- What a step makes of the view of the seat that makes it. It mirrors what the core's step makes of its state, part by part.
-use Rattle.std.specs.Prelude.{◌≡◌, ℕ, ◌+◌, ◌-◌, ◌*◌, ◌/◌, ◌%◌, ◌^◌, true, false, List, [], ◌∷◌, ◌++◌, slice_index, slice_set, bit_or, Option, Some, None}
+use Rattle.std.specs.Prelude.{◌≡◌, ℕ, ◌+◌, ◌-◌, ◌*◌, ◌/◌, ◌%◌, ◌^◌, Bool, true, false, ◌==◌, ◌&&◌, if◌then◌else◌, nat_lt, List, [], ◌∷◌, ◌++◌, map, slice_index, slice_set, bit_or, Option, Some, None}
+use Rattle.std.specs.List.{range_with_len}
 use Rattle.gate_word.specs.Order.{join_of}
 use Rattle.part_geometry.specs.Shape.{Shape}
 use Rattle.part_geometry.specs.Pieces.{first_part}
 use Rattle.pair_core.specs.Words.{empty}
-use Rattle.pair_core.specs.Names.{Name, Claim, Release, Take, Return, Piece, number}
+use Rattle.pair_core.specs.Names.{Name, Claim, Release, Take, Return, Piece, number, claim_words, take_words}
 use Rattle.pair_core.specs.Steps.{mark, left_of}
+use Rattle.pair_core.specs.State.{word_count}
 use Rattle.pair_core.specs.declared.view.Mark.{Mark}
 use Rattle.pair_core.specs.declared.view.Pending.{Pending}
 use Rattle.pair_core.specs.declared.view.SendSide.{SendSide}
@@ -63,12 +65,13 @@ given_back q w d = saw (Return (q / 32)) w d
 abbrev pub released : View → View
 released d = record (saw Release (empty d.recv.round) d) { recv = record d.recv { released = 1 } }
 
--- two lists of words, joined word by word
-abbrev pub joined_words : List ℕ → List ℕ → List ℕ
-joined_words [] ws = []
-joined_words (v ∷ vs) [] = v ∷ vs
-joined_words (v ∷ vs) (w ∷ ws) = join_of v w ∷ joined_words vs ws
+-- the receive side alone writes the take and the return words, and keeps what it has seen of them
+abbrev pub is_own : View → ℕ → Bool
+is_own d n = (d.number == 1) && (nat_lt (claim_words d.geometry) n && nat_lt n (claim_words d.geometry + 1 + 2 * take_words d.geometry))
 
--- what one has seen is what both have seen
+-- the word with a number that d has seen once it is told what e has seen: of any word that isn't its own, the join
+abbrev pub told_word : View → View → ℕ → ℕ
+told_word d e n = if is_own d n then slice_index d.seen n else join_of (slice_index d.seen n) (slice_index e.seen n)
+
 abbrev pub told : View → View → View
-told d e = record d { seen = joined_words d.seen e.seen }
+told d e = record d { seen = map (told_word d e) (range_with_len 0 (word_count d.geometry)) }
