@@ -10,3 +10,8 @@ pub mod Claiming
 pub mod Laying
 pub mod Taking
 pub mod Returning
+pub mod Calls
+pub mod Marking
+pub mod Rows
+pub mod LanesStay
+pub mod MarkSeats
