@@ -1,16 +1,14 @@
 -- A look at a claim word or at the word of a piece: what the receive seat has seen of its own words is as it was, and so its
 -- lanes are.
-use Rattle.std.proofs.Common.{◌≡◌, ◌≢◌, ℕ, ◌+◌, ◌/◌, ◌%◌, ◌<◌, List, length, get_or, set, refl, sym, ap, ◌∙◌, subst, arith}
+use Rattle.std.proofs.Common.{◌≡◌, ◌≢◌, ℕ, ◌+◌, ◌/◌, ◌%◌, ◌<◌, List, ap, ◌∙◌, subst}
 use Rattle.std.proofs.lemmas.List.{get_or-set_other}
-use mathlib.Core.Option.{some}
-use lib.ListN.{get_elem?}
 use Rattle.pair_core.specs.Words.{bit}
 use Rattle.pair_core.specs.Names.{Name, Claim, Take, Return, Piece, Fits, number}
 use Rattle.pair_core.proofs.Facts.{number_one}
 use Rattle.slot_rows.specs.declared.lane.Lane.{Lane}
 use Rattle.slot_rows.proofs.Lists.{at_split}
 use Rattle.pair_rule.specs.Views.{seen, saw}
-use Rattle.pair_rule.specs.Seats.{AreLanes, IsLane, flag}
+use Rattle.pair_rule.specs.Seats.{AreLanes, flag}
 use Rattle.pair_rule.specs.declared.view.View.{View}
 use Rattle.pair_rule.proofs.Allowed.{word_there}
 

@@ -1,11 +1,11 @@
 -- The marking seat's value, of its fields: what an exchange of a slot, a claim that won and a lay make of both.
-use Rattle.std.proofs.Common.{◌≡◌, ℕ, ◌+◌, ◌-◌, ◌*◌, ◌%◌, ◌^◌, ◌<◌, ◌≤◌, List, [], ◌∷◌, ◌++◌, length, map, drop, set, Option, Some, refl, sym, ap, ◌∙◌, subst, arith, bit_or, append-nil, length-drop}
+use Rattle.std.proofs.Common.{◌≡◌, ℕ, ◌+◌, ◌-◌, ◌%◌, ◌^◌, ◌≤◌, List, [], ◌++◌, length, map, drop, set, Option, Some, refl, sym, ap, ◌∙◌, subst, bit_or, append-nil, length-drop}
 use Rattle.std.proofs.lemmas.List.{length-map}
 use mathlib.Core.Option.{some}
 use lib.ListN.{get_elem?}
 use Rattle.gate_word.specs.Words.{round_in}
 use Rattle.atomic_table.specs.Seated.{TableId}
-use Rattle.part_tables.specs.Parts.{first_sent, first_shared, after_shared}
+use Rattle.part_tables.specs.Parts.{first_sent}
 use Rattle.pair_core.specs.declared.view.Pending.{Pending}
 use Rattle.slot_rows.specs.Lists.{row}
 use Rattle.slot_rows.proofs.Lists.{row_length}
@@ -15,7 +15,6 @@ use Rattle.pair_rule.specs.Rule.{slot_number}
 use Rattle.pair_rule.specs.Seats.{MarkHeld, values}
 use Rattle.pair_rule.specs.Steps.{Seat, AreLong}
 use Rattle.pair_rule.specs.Marking.{sent_count, shared_count, HasWon, HasOut, laid_at, spot}
-use Rattle.pair_rule.specs.declared.view.View.{View}
 use Rattle.pair_rule.proofs.Rows.{values_row, values_set, values_drop, values_at, slot_at, slots_gone, of_row}
 
 -- the value of a marking seat
@@ -42,8 +41,7 @@ module _ (t : TableId) (me : Seat) (first : ℕ) (in_row : me.1 ≡ row first (v
       → (me'.1 ≡ row at (values me'.1)) × (count ≡ length me'.1) × HasWon (round_in shown) p b (bit_or shown (2 ^ (p % 32))) (held_of t me first) (held_of t me' at)
   claim_won me' at count shown p b none at_is count_is knows ys went size long =
       let empty : me.1 ≡ [] = in_row ∙ ap (row first) none in
-      let is : me'.1 ≡ row at (map Some ys) = went ∙ ((λ i. row (sym at_is i) (map Some ys) ++ empty i) ∙ append-nil (row at (map Some ys))) in
-      (
+      let is : me'.1 ≡ row at (map Some ys) = went ∙ ((λ i. row (sym at_is i) (map Some ys) ++ empty i) ∙ append-nil (row at (map Some ys))) in (
         of_row me'.1 at (map Some ys) is,
         count_is ∙ (sym size ∙ (sym (length-map ys Some) ∙ (sym (row_length at (map Some ys)) ∙ ap length (sym is)))),
         record {
@@ -65,8 +63,7 @@ module _ (t : TableId) (me : Seat) (first : ℕ) (in_row : me.1 ≡ row first (v
       let m : ℕ = shared_count me.0.geometry p i in
       let gone : me'.1 ≡ drop m me.1 = ap (λ z. z.1) is in
       let start : at ≡ first + m = at_is ∙ ap (λ (z : ℕ). first + z) n_is in
-      let out : values me'.1 ≡ drop m (values me.1) = ap values gone ∙ values_drop m me.1 in
-      (
+      let out : values me'.1 ≡ drop m (values me.1) = ap values gone ∙ values_drop m me.1 in (
         gone ∙ (slots_gone me.1 first m in_row ∙ (λ j. row (sym start j) (values (sym gone j)))),
         (λ j. size j - n_is j) ∙ (sym (length-drop m me.1) ∙ ap length (sym gone)),
         (λ j. record { table = t; view = (is j).0; first = start j; out = out j }),

@@ -1,5 +1,5 @@
 -- The steps of a marking seat that move slots: a claim that wins, and a lay.
-use Rattle.std.specs.Prelude.{◌≡◌, ◌≢◌, ℕ, ◌+◌, ◌-◌, ◌*◌, ◌/◌, ◌%◌, ◌^◌, ◌<◌, ◌≤◌, List, [], ◌∷◌, ◌++◌, length, map, drop, Contains, bit_or, Option, Some, None}
+use Rattle.std.specs.Prelude.{◌≡◌, ◌≢◌, ℕ, ◌+◌, ◌-◌, ◌/◌, ◌%◌, ◌^◌, ◌≤◌, List, ◌++◌, length, map, drop, Contains, bit_or, Option, Some}
 use Rattle.gate_word.specs.Words.{round_in}
 use Rattle.gate_word.specs.Order.{IsLater}
 use Rattle.part_geometry.specs.Shape.{Shape}
@@ -28,19 +28,30 @@ sent_count g p = first_sent g (p + 1) - first_sent g p
 abbrev pub shared_count : Shape → ℕ → ℕ → ℕ
 shared_count g p i = after_shared g p i - first_shared g p i
 
--- A claim of partition p in round k won: w is the claim word then. The buffers of the partition's cells at the round's place are out
--- with the seat.
+-- the number of the slot of the first of those cells at the round's place
+abbrev pub sent_slot : Shape → ℕ → ℕ → ℕ
+sent_slot g k p = slot_number g (k % g.depth) (first_sent g p)
+
+abbrev pub shared_slot : Shape → ℕ → ℕ → ℕ → ℕ
+shared_slot g k p i = slot_number g (k % g.depth) (first_shared g p i)
+
+-- a word of piece i with the bit of partition p set
+abbrev pub with_part : Shape → ℕ → ℕ → ℕ → ℕ
+with_part g i p w = bit_or w (2 ^ (p - first_part g i))
+
+-- A claim of partition p in round k won: w is the claim word then. The buffers of the partition's cells at the round's
+-- place are out with the seat.
 pub record HasWon (k p : ℕ) (b : List ℕ) (w : ℕ) (old new : MarkHeld) : Type 0 where
   pub table : new.table ≡ old.table
   pub view : new.view ≡ view.claimed k p b w old.view
-  pub first : new.first ≡ slot_number old.view.geometry (k % old.view.geometry.depth) (first_sent old.view.geometry p)
+  pub first : new.first ≡ sent_slot old.view.geometry k p
   pub bufs : List Buf
   pub out : new.out ≡ map Some bufs
   pub count : length bufs ≡ sent_count old.view.geometry p
   pub long : AreLong old.view.geometry (first_sent old.view.geometry p) bufs
 
--- The claim of partition p in round k pends and may be laid into piece i. The first of the slots that are out are those of the cells
--- that both share, each filled for the round with its part of the mark's bytes.
+-- The claim of partition p in round k pends and may be laid into piece i. The first of the slots that are out are those
+-- of the cells that both share, each filled for the round with its part of the mark's bytes.
 pub record IsFilled (k p i : ℕ) (d : View) (first : ℕ) (out : List (Option Buf)) : Type 0 where
   pub pending : Pending
   pub pends : d.pending ≡ Some pending
@@ -48,7 +59,7 @@ pub record IsFilled (k p i : ℕ) (d : View) (first : ℕ) (out : List (Option B
   pub lays : MayLay d.geometry pending p i
   pub bytes : List ℕ
   pub marked : Contains d.marks (mark k p bytes)
-  pub starts : first ≡ slot_number d.geometry (k % d.geometry.depth) (first_shared d.geometry p i)
+  pub starts : first ≡ shared_slot d.geometry k p i
   pub bufs : List Buf
   pub others : List (Option Buf)
   pub slots : out ≡ map Some bufs ++ others
@@ -69,14 +80,15 @@ abbrev pub tries : ℕ → List ℕ → Step (Option Buf) → Seat → ℕ → S
 tries p b st me found me' =
     let g = me.0.geometry in let k = round_in st.first in
     (found ≡ st.first → (me'.0 ≡ view.claimed k p b (bit_or st.first (2 ^ (p % 32))) me.0)
-      × ((ys : List Buf) × (me'.1 ≡ row (slot_number g (k % g.depth) (first_sent g p)) (map Some ys) ++ me.1) × (length ys ≡ sent_count g p) × AreLong g (first_sent g p) ys))
+    × ((ys : List Buf) × (me'.1 ≡ row (sent_slot g k p) (map Some ys) ++ me.1)
+    × (length ys ≡ sent_count g p) × AreLong g (first_sent g p) ys))
     × (found ≢ st.first → me' ≡ (view.saw (Claim (p / 32)) found me.0, me.1))
     × IsLater st.first found
 
 -- what the lay tells: it found the piece's word in the round of the claim, and without the partition
 abbrev pub lays : ℕ → ℕ → Step (Option Buf) → Seat → ℕ → Seat → Type 0
 lays p i st me found me' = (x : Pending) → me.0.pending ≡ Some x
-    → (me' ≡ (view.laid i x (bit_or found (2 ^ (p - first_part me.0.geometry i))) me.0, drop (shared_count me.0.geometry p i) me.1))
+    → (me' ≡ (view.laid i x (with_part me.0.geometry i p found) me.0, drop (shared_count me.0.geometry p i) me.1))
     × (round_in found ≡ x.round) × (laid me.0.geometry found i p ≡ 0)
 
 -- the number in the seat's list of the slot of cell c at place d

@@ -1,6 +1,6 @@
 //! Looks at the claim words and at the words of pieces, which any seat may take.
 
-ghost use Rattle.std.specs.Prelude.{◌≡◌, ◌<◌};
+ghost use Rattle.std.specs.Prelude.{◌≡◌, ◌<◌, refl};
 ghost use Rattle.part_geometry.specs.Pieces.{pieces};
 ghost use Rattle.pair_core.specs.Names.{Claim, Piece, claim_words};
 ghost use Rattle.pair_core.specs.Moves.{LoadClaim, LoadPiece};
@@ -45,6 +45,12 @@ pub trait Seated<C: Content>: Sealed {
         requires piece { piece < pieces (view_of self.old).geometry }
         ensures step { self.new ≡ with_view self.old (saw (Piece place piece) result (view_of self.old)) }
         ensures told { Learns (view_of self.old) (Piece place piece) result };
+
+    ghost has_view: { (s : Self) (d : View) → view_of (with_view s d) ≡ d };
+
+    ghost has_table: { (s : Self) (d : View) → table_of (with_view s d) ≡ table_of s };
+
+    ghost has_last: { (s : Self) (d e : View) → with_view (with_view s d) e ≡ with_view s e };
 }
 
 /// What keeps types outside this crate from being seats.
@@ -86,8 +92,8 @@ impl<C: Content> Pair<C> {
         self.table.shared.load::<LoadsPiece<X>>(seat, index)
     }
 
-    /// A seat looks at a claim word. Word `c` has the 32 send partitions from 32 c on: which of them are claimed in the word's round.
-    /// The word found is the one last seen, or a later one.
+    /// A seat looks at a claim word. Word `c` has the 32 send partitions from 32 c on: which of them are claimed in the
+    /// word's round. The word found is the one last seen, or a later one.
     pub fn load_claim<S: Seated<C>>(&self, seat: &mut S, word: u32) -> u64
         requires pair { IsOf (S.table_of seat.old) (S.view_of seat.old) self.now }
         requires word { word < claim_words (S.view_of seat.old).geometry }
@@ -97,8 +103,9 @@ impl<C: Content> Pair<C> {
         seat.claim_found(self, word)
     }
 
-    /// A seat looks at the word of a piece at a place, which is a round's remainder by the depth: which of the send partitions that
-    /// the piece touches it has in the word's round. The word found is the one last seen, or a later one.
+    /// A seat looks at the word of a piece at a place, which is a round's remainder by the depth: which of the send
+    /// partitions that the piece touches it has in the word's round. The word found is the one last seen, or a later
+    /// one.
     pub fn load_piece<S: Seated<C>>(&self, seat: &mut S, place: u32, piece: u32) -> u64
         requires pair { IsOf (S.table_of seat.old) (S.view_of seat.old) self.now }
         requires place { place < (S.view_of seat.old).geometry.depth }
@@ -124,6 +131,12 @@ impl<C: Content> Seated<C> for SendSeat<C> {
     fn piece_found(&mut self, pair: &Pair<C>, place: u32, piece: u32) -> u64 {
         pair.load_piece_as::<Brand>(&mut self.seat, place, piece)
     }
+
+    ghost has_view = { λ s d. refl };
+
+    ghost has_table = { λ s d. refl };
+
+    ghost has_last = { λ s d e. refl };
 }
 
 impl<C: Content> Seated<C> for MarkSeat<C> {
@@ -140,6 +153,12 @@ impl<C: Content> Seated<C> for MarkSeat<C> {
     fn piece_found(&mut self, pair: &Pair<C>, place: u32, piece: u32) -> u64 {
         pair.load_piece_as::<Brand>(&mut self.seat, place, piece)
     }
+
+    ghost has_view = { λ s d. refl };
+
+    ghost has_table = { λ s d. refl };
+
+    ghost has_last = { λ s d e. refl };
 }
 
 impl<C: Content> Seated<C> for WatchSeat<C> {
@@ -156,6 +175,12 @@ impl<C: Content> Seated<C> for WatchSeat<C> {
     fn piece_found(&mut self, pair: &Pair<C>, place: u32, piece: u32) -> u64 {
         pair.load_piece_as::<Brand>(&mut self.seat, place, piece)
     }
+
+    ghost has_view = { λ s d. refl };
+
+    ghost has_table = { λ s d. refl };
+
+    ghost has_last = { λ s d e. refl };
 }
 
 impl<C: Content> Seated<C> for RecvSeat<C> {
@@ -172,4 +197,10 @@ impl<C: Content> Seated<C> for RecvSeat<C> {
     fn piece_found(&mut self, pair: &Pair<C>, place: u32, piece: u32) -> u64 {
         pair.load_piece_as::<Brand>(&mut self.seat, place, piece)
     }
+
+    ghost has_view = { λ s d. refl };
+
+    ghost has_table = { λ s d. refl };
+
+    ghost has_last = { λ s d e. refl };
 }

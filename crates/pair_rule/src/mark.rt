@@ -4,8 +4,6 @@ ghost use Rattle.std.specs.Prelude.{◌≡◌, ◌≢◌, ◌<◌, ◌-◌, ◌^
 ghost use Rattle.gate_word.specs.Words.{round_in};
 ghost use Rattle.gate_word.specs.Order.{IsLater};
 ghost use Rattle.part_geometry.specs.Cells.{cells};
-ghost use Rattle.part_geometry.specs.Pieces.{first_part};
-ghost use Rattle.part_tables.specs.Parts.{first_shared};
 ghost use Rattle.pair_core.specs.Names.{Claim};
 ghost use Rattle.pair_core.specs.Reading.{laid};
 ghost use Rattle.pair_core.specs.Moves.{TryClaim};
@@ -14,11 +12,11 @@ ghost use Rattle.slot_rows.specs.Lists.{row};
 ghost use Rattle.atomic_table.specs.Table.{step};
 ghost use mathlib.Core.Option.{none};
 ghost use Rattle.pair_rule.specs.Buf.{Buf};
-ghost use Rattle.pair_rule.specs.Rule.{slot_number, cell_length, MayMark};
+ghost use Rattle.pair_rule.specs.Rule.{cell_length, MayMark};
 ghost use Rattle.pair_rule.specs.Views.{seen, saw};
 ghost use Rattle.pair_rule.specs.Seats.{IsOf, values};
 ghost use Rattle.pair_rule.specs.Steps.{MayMake};
-ghost use Rattle.pair_rule.specs.Marking.{HasWon, IsFilled, HasOut, laid_at, tries, lays, spot};
+ghost use Rattle.pair_rule.specs.Marking.{HasWon, IsFilled, HasOut, laid_at, tries, lays, spot, shared_slot, with_part};
 ghost use Rattle.pair_rule.specs.declared.view.Standing.TheVariants.{Seated};
 
 use crate::buf::CellBuf;
@@ -51,24 +49,16 @@ impl<C: Content> Pair<C> {
     {
         let _ = bytes;
         let index = claim_word(&self.tables, (partition / 32) as usize);
-        self.table.shared.compare_exchange::<TriesClaim<X>>(
-            seat,
-            index,
-            shown,
-            shown | one_bit(partition % 32),
-        )
+        self.table
+            .shared
+            .compare_exchange::<TriesClaim<X>>(seat, index, shown, shown | one_bit(partition % 32))
     }
 
-    /// A marker tries to claim a partition for these bytes, in the round of its claim word as it has last seen it, `shown`. It
-    /// answers the word that it found. Where that is `shown` the claim is won: it pends, the mark is made, and the buffers of the
-    /// partition's cells at the round's place are out with the seat. Else nothing happens, and the word found is a later one.
-    pub fn try_claim(
-        &self,
-        seat: &mut MarkSeat<C>,
-        shown: u64,
-        partition: u32,
-        bytes: &[u8],
-    ) -> u64
+    /// A marker tries to claim a partition for these bytes, in the round of its claim word as it has last seen it,
+    /// `shown`. It answers the word that it found. Where that is `shown` the claim is won: it pends, the mark is made,
+    /// and the buffers of the partition's cells at the round's place are out with the seat. Else nothing happens, and
+    /// the word found is a later one.
+    pub fn try_claim(&self, seat: &mut MarkSeat<C>, shown: u64, partition: u32, bytes: &[u8]) -> u64
         requires pair { IsOf seat.old.table seat.old.view self.now }
         requires allowed { MayMake seat.old.view (TryClaim seat.old.view.number partition bytes.now) }
         requires shown { shown ≡ seen seat.old.view (Claim (partition / 32)) }
@@ -98,32 +88,24 @@ impl<C: Content> Pair<C> {
         requires said { (partition ≡ X.one) × (piece ≡ X.two) }
         requires pair { IsOf seat.old.table_id seat.old.me.0 self.now }
         requires live { seat.old.me.0.standing ≡ Seated }
-        requires filled { IsFilled round partition piece seat.old.me.0 (slot_number seat.old.me.0.geometry (round % seat.old.me.0.geometry.depth) (first_shared seat.old.me.0.geometry partition piece)) (values seat.old.me.1) }
-        requires row { seat.old.me.1 ≡ row (slot_number seat.old.me.0.geometry (round % seat.old.me.0.geometry.depth) (first_shared seat.old.me.0.geometry partition piece)) (values seat.old.me.1) }
+        requires filled { IsFilled round partition piece seat.old.me.0 (shared_slot seat.old.me.0.geometry round partition piece) (values seat.old.me.1) }
+        requires row { seat.old.me.1 ≡ row (shared_slot seat.old.me.0.geometry round partition piece) (values seat.old.me.1) }
         ensures seat { (seat.new.table_id ≡ seat.old.table_id) × (seat.new.id ≡ seat.old.id) }
         ensures step { lays partition piece (step 0 0 0 0 none) seat.old.me result seat.new.me }
     {
         let place = self.tables.place(round);
         let index = piece_word(&self.tables, place, piece as usize);
         let bit = one_bit(partition - self.tables.first_part(piece as usize));
-        self.table
-            .shared
-            .fetch_or::<LaysPiece<X>>(seat, index, bit)
+        self.table.shared.fetch_or::<LaysPiece<X>>(seat, index, bit)
     }
 
-    /// A marker lays its pending claim of a partition into a piece, and answers the word of the piece that it found, which has the claim's
-    /// round and lacks the partition. The buffers of the cells that both share go home. They are the first of those that are out, and
-    /// each is filled with its part of the mark's bytes.
-    pub fn mark_piece(
-        &self,
-        seat: &mut MarkSeat<C>,
-        round: u32,
-        partition: u32,
-        piece: u32,
-    ) -> u64
+    /// A marker lays its pending claim of a partition into a piece, and answers the word of the piece that it found,
+    /// which has the claim's round and lacks the partition. The buffers of the cells that both share go home. They are
+    /// the first of those that are out, and each is filled with its part of the mark's bytes.
+    pub fn mark_piece(&self, seat: &mut MarkSeat<C>, round: u32, partition: u32, piece: u32) -> u64
         requires pair { IsOf seat.old.table seat.old.view self.now }
         requires filled { IsFilled round partition piece seat.old.view seat.old.first seat.old.out }
-        ensures step { (x : Pending) → seat.old.view.pending ≡ Some x → seat.new ≡ laid_at partition piece x (bit_or result (2 ^ (partition - first_part seat.old.view.geometry piece))) seat.old }
+        ensures step { (x : Pending) → seat.old.view.pending ≡ Some x → seat.new ≡ laid_at partition piece x (with_part seat.old.view.geometry piece partition result) seat.old }
         ensures found { (round_in result ≡ round) × (laid seat.old.view.geometry result piece partition ≡ 0) }
     {
         let place = self.tables.place(round);

@@ -58,7 +58,7 @@ impl<X: Numbers> Play<Option<CellBuf>, View> for ShutsClaim<X> {
 pub(crate) struct LoadsRelease;
 
 impl Play<Option<CellBuf>, View> for LoadsRelease {
-    ghost then = { goes (λ found d. saw Release found d) (λ found d. Learns d Release found) };
+    ghost then = { goes (saw Release) (λ found d. Learns d Release found) };
 }
 
 /// A seat looks at a claim word.
@@ -67,7 +67,7 @@ pub(crate) struct LoadsClaim<X> {
 }
 
 impl<X: Numbers> Play<Option<CellBuf>, View> for LoadsClaim<X> {
-    ghost then = { goes (λ found d. saw (Claim X.one) found d) (λ found d. Learns d (Claim X.one) found) };
+    ghost then = { goes (saw (Claim X.one)) (λ found d. Learns d (Claim X.one) found) };
 }
 
 /// A seat looks at the word of a piece at a place.
@@ -76,7 +76,7 @@ pub(crate) struct LoadsPiece<X> {
 }
 
 impl<X: Numbers> Play<Option<CellBuf>, View> for LoadsPiece<X> {
-    ghost then = { goes (λ found d. saw (Piece X.one X.two) found d) (λ found d. Learns d (Piece X.one X.two) found) };
+    ghost then = { goes (saw (Piece X.one X.two)) (λ found d. Learns d (Piece X.one X.two) found) };
 }
 
 /// What a marker claims: the partition and the bytes of its mark.

@@ -32,9 +32,9 @@ impl<C: Content> Pair<C> {
             .store::<StoresPiece<X>>(seat, word, empty_word(round));
     }
 
-    /// The send side stores the word of a piece at the round's place, empty for the round: for piece 0 where the side is idle and
-    /// the round is its next one, which the release that it has seen leaves room for; for another piece where those before it
-    /// are stored.
+    /// The send side stores the word of a piece at the round's place, empty for the round: for piece 0 where the side is
+    /// idle and the round is its next one, which the release that it has seen leaves room for; for another piece where
+    /// those before it are stored.
     pub fn store_piece(&self, seat: &mut SendSeat<C>, round: u32, piece: u32)
         requires pair { IsOf seat.old.table seat.old.view self.now }
         requires allowed { MayMake seat.old.view (StorePiece round piece) }
@@ -58,9 +58,9 @@ impl<C: Content> Pair<C> {
             .store::<StoresClaim<X>>(seat, index, empty_word(round));
     }
 
-    /// The send side stores a claim word, empty for its round, where all piece words and the claim words before it are stored for
-    /// it. Word `c` has the 32 send partitions from 32 c on. When the last one is stored the round is open: partitions may be
-    /// claimed.
+    /// The send side stores a claim word, empty for its round, where all piece words and the claim words before it are
+    /// stored for it. Word `c` has the 32 send partitions from 32 c on. When the last one is stored all partitions may
+    /// be claimed.
     pub fn store_claim(&self, seat: &mut SendSeat<C>, round: u32, word: u32)
         requires pair { IsOf seat.old.table seat.old.view self.now }
         requires allowed { MayMake seat.old.view (StoreClaim round word) }
@@ -97,9 +97,9 @@ impl<C: Content> Pair<C> {
             .fetch_or::<ShutsClaim<X>>(seat, index, one_bit(32))
     }
 
-    /// The send side shuts a claim word, and answers the word that it found: the first one where it is active, has seen all
-    /// partitions claimed and all pieces full in its round, and the release that it has seen has room for the next round;
-    /// another where those before it are shut. When the last one is shut the round is ended.
+    /// The send side shuts a claim word, and answers the word that it found: the first one where it is active, has seen
+    /// all partitions claimed and all pieces full in its round, and the release that it has seen has room for the next
+    /// round; another where those before it are shut. When the last one is shut the round is ended.
     pub fn shut_claim(&self, seat: &mut SendSeat<C>, word: u32) -> u64
         requires pair { IsOf seat.old.table seat.old.view self.now }
         requires allowed { MayMake seat.old.view (ShutClaim word) }

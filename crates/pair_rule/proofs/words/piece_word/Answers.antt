@@ -1,4 +1,4 @@
-use Rattle.std.proofs.Common.{◌≡◌, ◌<◌, ◌≤◌, ℕ, ◌+◌, ◌*◌, arith}
+use Rattle.std.proofs.Common.{◌<◌, ◌≤◌, ℕ, ◌*◌, arith}
 use Rattle.std.proofs.Math.Nat.{mul-le-mul_right}
 use Rattle.pair_rule.proofs.words.piece_word.Goals as goal
 

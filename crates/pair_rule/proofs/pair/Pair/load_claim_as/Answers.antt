@@ -1,21 +1,18 @@
-use Rattle.std.proofs.Common.{rules, ◌≡◌, ℕ, ◌<◌, ◌≤◌, ◌+◌, ◌%◌, ◌^◌, List, get_or, bit_or, refl, sym, ap, ◌∙◌, subst}
+use Rattle.std.proofs.Common.{◌≡◌, ℕ, ◌<◌, get_or, refl, sym, ap, ◌∙◌, subst}
 use mathlib.Core.Option.{none}
 use Rattle.atomic_table.specs.Table.{step}
 use Rattle.part_geometry.specs.Shape.{Shape}
-use Rattle.part_geometry.specs.Pieces.{pieces}
-use Rattle.pair_core.specs.Words.{empty}
-use Rattle.pair_core.specs.Names.{Name, Claim, Release, Piece, number, claim_words}
-use Rattle.pair_core.specs.Moves.{StorePiece, StoreClaim, ShutClaim, LoadClaim, LoadPiece, LoadRelease, after}
+use Rattle.pair_core.specs.Names.{Name, Claim, number, claim_words}
+use Rattle.pair_core.specs.Moves.{LoadClaim, after}
 use Rattle.pair_rule.specs.Views as view
 use Rattle.pair_rule.specs.Rule.{At}
 use Rattle.pair_rule.specs.Told.{Learns}
 use Rattle.pair_rule.specs.declared.view.View.{View}
 use Rattle.pair_rule.proofs.Core.{laws}
-use Rattle.pair_rule.proofs.Allowed.{place_there}
 use Rattle.pair_rule.proofs.Bridge.{Held}
 use Rattle.pair_rule.proofs.Sides.{stepped_to}
 use Rattle.pair_rule.proofs.Calls.{asked}
-use Rattle.pair_rule.proofs.SideSteps.{store_piece_leads, store_claim_leads, shut_claim_leads, load_release_leads, load_claim_leads, load_piece_leads}
+use Rattle.pair_rule.proofs.SideSteps.{load_claim_leads}
 use Rattle.pair_rule.proofs.pair.Pair.load_claim_as.Goals as goal
 
 pub load-requires : goal.load-requires
@@ -26,8 +23,8 @@ load-requires g c =
     let X : Shape → Name = λ z. Claim w in
     let found : At → ℕ = λ s. get_or s.words (number key.geometry (X key.geometry)) 0 in
     asked may key c.self.inside.tables t.table_id c.args.self.now c.self.invariant.0 c.self.invariant.2 c.self.view_is c.self.invariant.1 seat.table_id seat.id seat.me X c.claim_word-index.result
-      (λ n. n) (λ n. n) (λ n e. view.saw (Claim g.X.Numbers.one) n e) (λ n e. Learns e (Claim g.X.Numbers.one) n) (step t.table_id.slots c.claim_word-index.result 0 0 none)
-      c.requires.pair c.requires.live c.claim_word-index.ensures.value (subst (λ (z : Shape). w < claim_words z) same_shape c.requires.word)
-      (λ s r there.
-        let led = load_claim_leads may key L s r seat.id d there c.requires.live d.number w _ refl (refl, c.requires.word) in
-        let told = subst (λ (z : ℕ). Held may key (stepped_to may key L s (Claim w) (found s) seat.id (view.saw (Claim z) (found s) d)) (after key.geometry r.core (LoadClaim d.number w)) × Learns d (Claim z) (found s)) c.requires.said led in (_, told.0, told.1))
+    (λ n. n) (λ n. n) (λ n e. view.saw (Claim g.X.Numbers.one) n e) (λ n e. Learns e (Claim g.X.Numbers.one) n) (step t.table_id.slots c.claim_word-index.result 0 0 none)
+    c.requires.pair c.requires.live c.claim_word-index.ensures.value (subst (λ (z : Shape). w < claim_words z) same_shape c.requires.word)
+    (λ s r there.
+    let led = load_claim_leads may key L s r seat.id d there c.requires.live d.number w _ refl (refl, c.requires.word) in
+    let told = subst (λ (z : ℕ). Held may key (stepped_to may key L s (Claim w) (found s) seat.id (view.saw (Claim z) (found s) d)) (after key.geometry r.core (LoadClaim d.number w)) × Learns d (Claim z) (found s)) c.requires.said led in (_, told.0, told.1))
