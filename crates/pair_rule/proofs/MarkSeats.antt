@@ -14,7 +14,7 @@ use Rattle.pair_rule.specs.Views as view
 use Rattle.pair_rule.specs.Rule.{slot_number}
 use Rattle.pair_rule.specs.Seats.{MarkHeld, values}
 use Rattle.pair_rule.specs.Steps.{Seat, AreLong}
-use Rattle.pair_rule.specs.Marking.{sent_count, shared_count, HasWon, HasOut, laid_at, spot}
+use Rattle.pair_rule.specs.Marking.{sent_count, shared_count, HasWon, HasOut, laid_at, spot, with_part}
 use Rattle.pair_rule.proofs.Rows.{values_row, values_set, values_drop, values_at, slot_at, slots_gone, of_row}
 
 -- the value of a marking seat
@@ -38,7 +38,7 @@ module _ (t : TableId) (me : Seat) (first : ℕ) (in_row : me.1 ≡ row first (v
   pub claim_won : (me' : Seat) (at count shown p : ℕ) (b : List ℕ) → values me.1 ≡ [] → at ≡ slot_number me.0.geometry (round_in shown % me.0.geometry.depth) (first_sent me.0.geometry p) → count ≡ sent_count me.0.geometry p
       → me'.0 ≡ view.claimed (round_in shown) p b (bit_or shown (2 ^ (p % 32))) me.0
       → (ys : List Buf) → me'.1 ≡ row (slot_number me.0.geometry (round_in shown % me.0.geometry.depth) (first_sent me.0.geometry p)) (map Some ys) ++ me.1 → length ys ≡ sent_count me.0.geometry p → AreLong me.0.geometry (first_sent me.0.geometry p) ys
-      → (me'.1 ≡ row at (values me'.1)) × (count ≡ length me'.1) × HasWon (round_in shown) p b (bit_or shown (2 ^ (p % 32))) (held_of t me first) (held_of t me' at)
+      → (me'.1 ≡ row at (values me'.1)) × (count ≡ length me'.1) × HasWon shown p b (held_of t me first) (held_of t me' at)
   claim_won me' at count shown p b none at_is count_is knows ys went size long =
       let empty : me.1 ≡ [] = in_row ∙ ap (row first) none in
       let is : me'.1 ≡ row at (map Some ys) = went ∙ ((λ i. row (sym at_is i) (map Some ys) ++ empty i) ∙ append-nil (row at (map Some ys))) in (
@@ -57,7 +57,7 @@ module _ (t : TableId) (me : Seat) (first : ℕ) (in_row : me.1 ≡ row first (v
 
   -- a lay is done: at is the slot behind those that went home, and n how many they are
   pub lay_done : (me' : Seat) (at count n p i w : ℕ) (x : Pending) → count ≡ length me.1 → n ≡ shared_count me.0.geometry p i → at ≡ first + n
-      → me' ≡ (view.laid i x w me.0, drop (shared_count me.0.geometry p i) me.1)
+      → me' ≡ (view.laid i x (with_part me.0.geometry i p w) me.0, drop (shared_count me.0.geometry p i) me.1)
       → (me'.1 ≡ row at (values me'.1)) × (count - n ≡ length me'.1) × (held_of t me' at ≡ laid_at p i x w (held_of t me first))
   lay_done me' at count n p i w x size n_is at_is is =
       let m : ℕ = shared_count me.0.geometry p i in

@@ -39,12 +39,12 @@ shared_slot g k p i = slot_number g (k % g.depth) (first_shared g p i)
 abbrev pub with_part : Shape → ℕ → ℕ → ℕ → ℕ
 with_part g i p w = bit_or w (2 ^ (p - first_part g i))
 
--- A claim of partition p in round k won: w is the claim word then. The buffers of the partition's cells at the round's
--- place are out with the seat.
-pub record HasWon (k p : ℕ) (b : List ℕ) (w : ℕ) (old new : MarkHeld) : Type 0 where
+-- A claim of partition p won, in the round of the claim word that was shown. The buffers of the partition's cells at the
+-- round's place are out with the seat.
+pub record HasWon (shown p : ℕ) (b : List ℕ) (old new : MarkHeld) : Type 0 where
   pub table : new.table ≡ old.table
-  pub view : new.view ≡ view.claimed k p b w old.view
-  pub first : new.first ≡ sent_slot old.view.geometry k p
+  pub view : new.view ≡ view.claimed (round_in shown) p b (bit_or shown (2 ^ (p % 32))) old.view
+  pub first : new.first ≡ sent_slot old.view.geometry (round_in shown) p
   pub bufs : List Buf
   pub out : new.out ≡ map Some bufs
   pub count : length bufs ≡ sent_count old.view.geometry p
@@ -66,11 +66,11 @@ pub record IsFilled (k p i : ℕ) (d : View) (first : ℕ) (out : List (Option B
   pub count : length bufs ≡ shared_count d.geometry p i
   pub cuts : AreCuts d.geometry k bytes (first_shared d.geometry p i) bufs
 
--- the same seat after the lay, where x was pending and w is the piece's word then: those slots are home
+-- the same seat after the lay, where x was pending and the lay found the word w: those slots are home
 abbrev pub laid_at : ℕ → ℕ → Pending → ℕ → MarkHeld → MarkHeld
 laid_at p i x w s = record {
   table = s.table;
-  view = view.laid i x w s.view;
+  view = view.laid i x (with_part s.view.geometry i p w) s.view;
   first = s.first + shared_count s.view.geometry p i;
   out = drop (shared_count s.view.geometry p i) s.out;
 }

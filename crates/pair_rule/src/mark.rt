@@ -1,6 +1,6 @@
 //! The steps of a marking seat.
 
-ghost use Rattle.std.specs.Prelude.{◌≡◌, ◌≢◌, ◌<◌, ◌-◌, ◌^◌, ◌/◌, ◌%◌, [], length, map, slice_set, bit_or, Some, None};
+ghost use Rattle.std.specs.Prelude.{◌≡◌, ◌≢◌, ◌<◌, ◌/◌, ◌%◌, [], length, slice_set, Some, None};
 ghost use Rattle.gate_word.specs.Words.{round_in};
 ghost use Rattle.gate_word.specs.Order.{IsLater};
 ghost use Rattle.part_geometry.specs.Cells.{cells};
@@ -16,7 +16,7 @@ ghost use Rattle.pair_rule.specs.Rule.{cell_length, MayMark};
 ghost use Rattle.pair_rule.specs.Views.{seen, saw};
 ghost use Rattle.pair_rule.specs.Seats.{IsOf, values};
 ghost use Rattle.pair_rule.specs.Steps.{MayMake};
-ghost use Rattle.pair_rule.specs.Marking.{HasWon, IsFilled, HasOut, laid_at, tries, lays, spot, shared_slot, with_part};
+ghost use Rattle.pair_rule.specs.Marking.{HasWon, IsFilled, HasOut, laid_at, tries, lays, spot, shared_slot};
 ghost use Rattle.pair_rule.specs.declared.view.Standing.TheVariants.{Seated};
 
 use crate::buf::CellBuf;
@@ -64,7 +64,7 @@ impl<C: Content> Pair<C> {
         requires shown { shown ≡ seen seat.old.view (Claim (partition / 32)) }
         requires bytes { MayMark C.may self.now.key (round_in shown) partition bytes.now }
         requires none { seat.old.out ≡ [] }
-        ensures won { result ≡ shown → HasWon (round_in shown) partition bytes.now (bit_or shown (2 ^ (partition % 32))) seat.old seat.new }
+        ensures won { result ≡ shown → HasWon shown partition bytes.now seat.old seat.new }
         ensures lost { result ≢ shown → seat.new ≡ record seat.old { view = saw (Claim (partition / 32)) result seat.old.view } }
         ensures later { IsLater shown result }
     {
@@ -105,7 +105,7 @@ impl<C: Content> Pair<C> {
     pub fn mark_piece(&self, seat: &mut MarkSeat<C>, round: u32, partition: u32, piece: u32) -> u64
         requires pair { IsOf seat.old.table seat.old.view self.now }
         requires filled { IsFilled round partition piece seat.old.view seat.old.first seat.old.out }
-        ensures step { (x : Pending) → seat.old.view.pending ≡ Some x → seat.new ≡ laid_at partition piece x (with_part seat.old.view.geometry piece partition result) seat.old }
+        ensures step { (x : Pending) → seat.old.view.pending ≡ Some x → seat.new ≡ laid_at partition piece x result seat.old }
         ensures found { (round_in result ≡ round) × (laid seat.old.view.geometry result piece partition ≡ 0) }
     {
         let place = self.tables.place(round);

@@ -32,9 +32,9 @@ impl<C: Content> Pair<C> {
             .store::<StoresPiece<X>>(seat, word, empty_word(round));
     }
 
-    /// The send side stores the word of a piece at the round's place, empty for the round: for piece 0 where the side is
-    /// idle and the round is its next one, which the release that it has seen leaves room for; for another piece where
-    /// those before it are stored.
+    /// The send side stores the word of a piece at the round's place, empty for the round: for piece 0 where the side
+    /// is idle and the round is its next one, which the release that it has seen leaves room for; for another piece
+    /// where those before it are stored.
     pub fn store_piece(&self, seat: &mut SendSeat<C>, round: u32, piece: u32)
         requires pair { IsOf seat.old.table seat.old.view self.now }
         requires allowed { MayMake seat.old.view (StorePiece round piece) }
@@ -70,8 +70,8 @@ impl<C: Content> Pair<C> {
         self.store_claim_as::<Brand>(&mut seat.seat, round, word);
     }
 
-    /// The send side looks at the release word, whose round is the last that the receive side is done with. It is the word
-    /// last seen, or a later one.
+    /// The send side looks at the release word, whose round is the last that the receive side is done with. It is the
+    /// word last seen, or a later one.
     pub fn load_release(&self, seat: &mut SendSeat<C>) -> u64
         requires pair { IsOf seat.old.table seat.old.view self.now }
         ensures step { seat.new ≡ record seat.old { view = saw Release result seat.old.view } }

@@ -1,7 +1,7 @@
-use Rattle.std.proofs.Common.{◌≡◌, ℕ, ◌<◌, ◌≤◌, ◌+◌, ◌-◌, ◌%◌, ◌^◌, List, ◌++◌, length, drop, length-append, map, bit_or, sym, ap, ◌∙◌, subst, arith, Option, Some}
+use Rattle.std.proofs.Common.{◌≡◌, ℕ, ◌<◌, ◌≤◌, ◌+◌, ◌-◌, ◌%◌, List, ◌++◌, length, drop, length-append, map, sym, ap, ◌∙◌, subst, arith, Option, Some}
 use Rattle.std.proofs.lemmas.List.{length-map}
 use Rattle.part_geometry.specs.Shape.{Shape, IsShape}
-use Rattle.part_geometry.specs.Pieces.{pieces, first_part, Touches}
+use Rattle.part_geometry.specs.Pieces.{pieces, Touches}
 use Rattle.part_tables.specs.Parts.{first_shared, after_shared}
 use Rattle.part_tables.proofs.Facts.{shared-some}
 use Rattle.pair_core.specs.declared.view.Pending.{Pending}
@@ -14,7 +14,7 @@ use Rattle.pair_rule.specs.Buf.{Buf}
 use Rattle.pair_rule.specs.Rule.{slot_number}
 use Rattle.pair_rule.specs.Seats.{MarkHeld, values}
 use Rattle.pair_rule.specs.Steps.{Seat}
-use Rattle.pair_rule.specs.Marking.{shared_count, laid_at}
+use Rattle.pair_rule.specs.Marking.{shared_count, laid_at, with_part}
 use Rattle.pair_rule.proofs.Rows.{values_length}
 use Rattle.pair_rule.proofs.MarkSeats.{held_of, lay_done}
 use Rattle.pair_rule.proofs.pair.Pair.mark_piece.Goals as goal
@@ -61,7 +61,7 @@ overflow_sub-seat-2 g c =
 done : (t g : Shape) (now : MarkHeld) → t ≡ g → now.view.geometry ≡ g → IsShape g → (table : TableId) (me me' : Seat) (first : ℕ) → held_of table me first ≡ now → (k p i e a f at count w : ℕ) (x : Pending)
     → i < pieces now.view.geometry → Touches now.view.geometry i p → now.first ≡ slot_number now.view.geometry (k % now.view.geometry.depth) (first_shared now.view.geometry p i)
     → me.1 ≡ row first (values me.1) → count ≡ length me.1 → at ≡ slot_number t e a → e ≡ k % t.depth → f ≡ first_shared t p i → a ≡ after_shared t p i
-    → me' ≡ (laid i x w me.0, drop (shared_count me.0.geometry p i) me.1)
+    → me' ≡ (laid i x (with_part me.0.geometry i p w) me.0, drop (shared_count me.0.geometry p i) me.1)
     → (me'.1 ≡ row at (values me'.1)) × (count - (a - f) ≡ length me'.1) × (held_of table me' at ≡ laid_at p i x w now)
 done t g now a b v table me me' first is k p i e after f at count w x inside touch starts in_row size at_is e_is f_is after_is went =
     let same : t ≡ now.view.geometry = a ∙ sym b in
@@ -75,20 +75,18 @@ done t g now a b v table me me' first is k p i e after f at count w x inside tou
 pub invariant_of-seat : goal.invariant_of-seat
 invariant_of-seat g c =
     let f = c.requires.filled in let key = c.self.inside.table.shared.key in let seat = c.seat.inside.seat in let v = c.seat.invariant in
-    let w : ℕ = bit_or c.mark_piece_as-found.result (2 ^ (c.args.partition - first_part seat.me.0.geometry c.args.piece)) in
     let step = c.mark_piece_as-found.ensures.step f.pending (ap (λ s. s.view.pending) c.seat.view_is ∙ f.pends) in
     let d = done c.self.inside.tables key.geometry c.args.seat.now c.self.invariant.0 (c.requires.pair.1 ∙ sym (ap (λ q. q.key.geometry) c.self.view_is)) c.self.invariant.1 seat.table_id seat.me c.mark_piece_as-found.new.seat.me c.seat.inside.first c.seat.view_is
-    c.args.round c.args.partition c.args.piece c.place-place.result c.shared-first.result.1 c.shared-first.result.0 c.slot_of-seat-inside.result c.seat.inside.count w f.pending f.lays.piece f.lays.touches f.starts v.2 v.3
+    c.args.round c.args.partition c.args.piece c.place-place.result c.shared-first.result.1 c.shared-first.result.0 c.slot_of-seat-inside.result c.seat.inside.count c.mark_piece_as-found.result f.pending f.lays.piece f.lays.touches f.starts v.2 v.3
     c.slot_of-seat-inside.ensures c.place-place.ensures.value (ap (λ z. z.0) c.shared-first.ensures.value) (ap (λ z. z.1) c.shared-first.ensures.value) step.0 in
     (ap (λ z. z.0.standing) step.0 ∙ v.0, subst (λ (z : Seat). IsMarker z.0.number) (sym step.0) v.1, d.0, d.1)
 
 pub returns-clause-step : goal.returns-clause-step
 returns-clause-step g c x pends =
     let f = c.requires.filled in let key = c.self.inside.table.shared.key in let seat = c.seat.inside.seat in let v = c.seat.invariant in
-    let w : ℕ = bit_or c.mark_piece_as-found.result (2 ^ (c.args.partition - first_part seat.me.0.geometry c.args.piece)) in
     let step = c.mark_piece_as-found.ensures.step x (ap (λ s. s.view.pending) c.seat.view_is ∙ pends) in
     let d = done c.self.inside.tables key.geometry c.args.seat.now c.self.invariant.0 (c.requires.pair.1 ∙ sym (ap (λ q. q.key.geometry) c.self.view_is)) c.self.invariant.1 seat.table_id seat.me c.mark_piece_as-found.new.seat.me c.seat.inside.first c.seat.view_is
-    c.args.round c.args.partition c.args.piece c.place-place.result c.shared-first.result.1 c.shared-first.result.0 c.slot_of-seat-inside.result c.seat.inside.count w x f.lays.piece f.lays.touches f.starts v.2 v.3
+    c.args.round c.args.partition c.args.piece c.place-place.result c.shared-first.result.1 c.shared-first.result.0 c.slot_of-seat-inside.result c.seat.inside.count c.mark_piece_as-found.result x f.lays.piece f.lays.touches f.starts v.2 v.3
     c.slot_of-seat-inside.ensures c.place-place.ensures.value (ap (λ z. z.0) c.shared-first.ensures.value) (ap (λ z. z.1) c.shared-first.ensures.value) step.0 in
     (λ j. held_of (c.mark_piece_as-found.ensures.seat.0 j) c.mark_piece_as-found.new.seat.me c.slot_of-seat-inside.result)
-    ∙ (d.2 ∙ (λ j. laid_at c.args.partition c.args.piece x (bit_or c.mark_piece_as-found.result (2 ^ (c.args.partition - first_part (c.seat.view_is j).view.geometry c.args.piece))) c.args.seat.now))
+    ∙ d.2

@@ -1,4 +1,4 @@
-use Rattle.std.proofs.Common.{◌≡◌, ℕ, ◌+◌, ◌-◌, ◌%◌, ◌^◌, bit_or, sym, ap, ◌∙◌, subst}
+use Rattle.std.proofs.Common.{◌≡◌, ℕ, ◌+◌, ◌-◌, ◌%◌, sym, ap, ◌∙◌, subst}
 use Rattle.gate_word.specs.Words.{round_in}
 use Rattle.part_geometry.specs.Shape.{Shape}
 use Rattle.part_tables.specs.Parts.{first_sent}
@@ -40,5 +40,5 @@ returns-then-found-shown-clause-won g c same =
     (ap (λ z. z.0) c.sent-first.ensures.value) (ap (λ z. z.1) c.sent-first.ensures.value) in
     let w = claim_won seat.table_id seat.me first v.2 c.try_claim_as-found.new.seat.me c.slot_of-seat-inside.result (c.sent-first.result.1 - c.sent-first.result.0) c.args.shown p c.args.bytes.now
     (ap (λ s. s.out) c.seat.view_is ∙ c.requires.none) b.0 b.1 e.0 e.1.0 e.1.1 e.1.2 e.1.3 in
-    subst (λ (z : MarkHeld × TableId). HasWon (round_in c.args.shown) p c.args.bytes.now (bit_or c.args.shown (2 ^ (p % 32))) z.0 (held_of z.1 c.try_claim_as-found.new.seat.me c.slot_of-seat-inside.result))
+    subst (λ (z : MarkHeld × TableId). HasWon c.args.shown p c.args.bytes.now z.0 (held_of z.1 c.try_claim_as-found.new.seat.me c.slot_of-seat-inside.result))
     (λ j. (c.seat.view_is j, sym c.try_claim_as-found.ensures.seat.0 j)) w.2
