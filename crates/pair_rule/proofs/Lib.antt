@@ -14,3 +14,8 @@ pub mod FirstFacts
 pub mod Splitting
 pub mod Joining
 pub mod Closing
+pub mod Calls
+pub mod Marking
+pub mod Rows
+pub mod LanesStay
+pub mod MarkSeats
