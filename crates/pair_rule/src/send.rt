@@ -2,7 +2,8 @@
 
 ghost use Rattle.std.specs.Prelude.{◌≡◌, ◌≤◌, ◌^◌, bit_or};
 ghost use Rattle.pair_core.specs.Names.{Release};
-ghost use Rattle.pair_core.specs.Moves.{StorePiece, StoreClaim, ShutClaim, last_round_number};
+ghost use Rattle.part_geometry.specs.declared.TheConstants.{LAST_ROUND};
+ghost use Rattle.pair_core.specs.Moves.{StorePiece, StoreClaim, ShutClaim};
 ghost use Rattle.pair_rule.specs.Views.{saw, stored_piece, stored_claim, shut_claim};
 ghost use Rattle.pair_rule.specs.Told.{Learns};
 ghost use Rattle.pair_rule.specs.Seats.{IsOf};
@@ -48,7 +49,7 @@ impl<C: Content> Pair<C> {
         requires pair { IsOf seat.old.table_id seat.old.me.0 self.now }
         requires live { seat.old.me.0.standing ≡ Seated }
         requires allowed { MayMake seat.old.me.0 (StoreClaim round word) }
-        requires limit { round ≤ last_round_number }
+        requires limit { round ≤ LAST_ROUND }
         ensures seat { (seat.new.table_id ≡ seat.old.table_id) × (seat.new.id ≡ seat.old.id) }
         ensures step { seat.new.me ≡ (stored_claim word seat.old.me.0, seat.old.me.1) }
     {
@@ -64,7 +65,7 @@ impl<C: Content> Pair<C> {
     pub fn store_claim(&self, seat: &mut SendSeat<C>, round: u32, word: u32)
         requires pair { IsOf seat.old.table seat.old.view self.now }
         requires allowed { MayMake seat.old.view (StoreClaim round word) }
-        requires limit { round ≤ last_round_number }
+        requires limit { round ≤ LAST_ROUND }
         ensures step { seat.new ≡ record seat.old { view = stored_claim word seat.old.view } }
     {
         self.store_claim_as::<Brand>(&mut seat.seat, round, word);

@@ -4,7 +4,7 @@ ghost use Rattle.std.specs.Prelude.{◌≡◌, ◌<◌, ◌≤◌, ◌^◌};
 ghost use Rattle.part_geometry.specs.Pieces.{pieces};
 ghost use Rattle.pair_core.specs.Names.{Claim, Release, Take, Return, Piece, claim_words, take_words, number};
 ghost use Rattle.pair_core.specs.Words.{empty};
-ghost use Rattle.pair_core.specs.Moves.{last_round_number};
+ghost use Rattle.part_geometry.specs.declared.TheConstants.{LAST_ROUND};
 ghost use Rattle.pair_core.specs.State.{word_count};
 ghost use Rattle.part_geometry.specs.Cells.{cells};
 ghost use Rattle.pair_rule.specs.Rule.{slot_number};
@@ -97,7 +97,7 @@ pub(crate) fn one_bit(j: u32) -> u64
 /// The open word of a round with no bit set.
 #[tactic(auto, unfolding(pair_core::specs::Words::empty))]
 pub(crate) fn empty_word(round: u32) -> u64
-    requires { round ≤ last_round_number }
+    requires { round ≤ LAST_ROUND }
     ensures { result ≡ empty round }
 {
     pack(round, false, 0)
