@@ -12,3 +12,4 @@ pub mod Taking
 pub mod Returning
 pub mod FirstFacts
 pub mod Splitting
+pub mod Starting

@@ -3,6 +3,7 @@
 
 mod buf;
 mod content;
+mod first;
 mod pair;
 mod plays;
 mod rule;
