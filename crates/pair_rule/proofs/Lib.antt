@@ -10,3 +10,4 @@ pub mod Claiming
 pub mod Laying
 pub mod Taking
 pub mod Returning
+pub mod LanesKept

@@ -5,9 +5,12 @@ mod buf;
 mod content;
 mod pair;
 mod plays;
+mod recv;
+mod recv_plays;
 mod rule;
 mod seats;
 mod send;
+mod take;
 mod view;
 mod words;
 
