@@ -13,3 +13,4 @@ pub mod Returning
 pub mod FirstFacts
 pub mod Splitting
 pub mod Starting
+pub mod LanesKept

@@ -1,7 +1,7 @@
 -- A pair begins by its rule: the table has the first words, each slot is home with a buffer of round 0, and the one view is that of
 -- the send side, which is alone. It shows the core's first state. No piece has a round from 1 on, so no buffer has to have marked
--- bytes.
-use Rattle.std.proofs.Common.{◌≡◌, ◌≢◌, ◌⊎◌, inl, inr, ℕ, zero, suc, ◌+◌, ◌*◌, ◌%◌, ◌<◌, ◌≤◌, Bool, true, false, nat_lt, List, [], ◌∷◌, length, map, get_or, replicate, Option, Some, None, refl, sym, ap, ◌∙◌, subst, arith}
+-- bytes. The lanes of the receive side are those of a round in which each partition was taken and given back.
+use Rattle.std.proofs.Common.{◌≡◌, ◌≢◌, ◌⊎◌, inl, inr, ℕ, zero, suc, ◌+◌, ◌*◌, ◌/◌, ◌%◌, ◌<◌, ◌≤◌, Bool, true, false, nat_lt, List, [], ◌∷◌, length, map, get_or, replicate, Option, Some, None, refl, sym, ap, ◌∙◌, subst, arith}
 use Rattle.std.specs.Prelude.{if◌then◌else◌}
 use Rattle.std.specs.List.{range_with_len}
 use Rattle.std.proofs.lemmas.Bool.{cases_lt, lt-ltb, le-ltb}
@@ -16,18 +16,23 @@ use Rattle.gate_word.specs.Words.{round_in}
 use Rattle.part_geometry.specs.Shape.{Shape, IsShape}
 use Rattle.part_geometry.specs.Cells.{cells}
 use Rattle.part_geometry.specs.Pieces.{piece_of}
-use Rattle.pair_core.specs.Names.{Name, Fits, number}
+use Rattle.pair_core.specs.Names.{Name, Take, Fits, number, take_words}
 use Rattle.pair_core.specs.Moves.{first_word, first_state}
 use Rattle.pair_core.specs.Core.{Slot, Home}
+use Rattle.pair_core.specs.Words.{bit}
 use Rattle.pair_core.specs.State.{word_count}
+use Rattle.slot_rows.specs.declared.lane.Lane.{Lane}
+use Rattle.slot_rows.specs.Lanes.{wide}
 use Rattle.pair_core.specs.declared.view.Life.{Life}
 use Rattle.pair_core.specs.declared.view.Life.TheVariants.{Live, Blank}
 use Rattle.pair_core.proofs.Facts.{number_lt}
-use Rattle.pair_core.proofs.Cut.{cell_piece}
-use Rattle.pair_core.proofs.Start.{piece_full}
+use Rattle.pair_core.proofs.Cut.{cell_piece, take_word}
+use Rattle.pair_core.proofs.Start.{piece_full, part_there}
 use Rattle.pair_core.proofs.StateNumbers.{row_lt}
 use Rattle.pair_rule.specs.Buf.{Buf, buf}
-use Rattle.pair_rule.specs.First.{first_words, first_buf, first_bufs, first_view}
+use Rattle.pair_rule.specs.First.{first_words, first_buf, first_bufs, first_view, receiver}
+use Rattle.pair_rule.specs.Parts.{first_lane, first_lanes}
+use Rattle.pair_rule.specs.Seats.{AreLanes, IsLane}
 use Rattle.pair_rule.specs.Rule.{At, Shown, slot_number, cell_length, Stands, Given, Agrees, Rule, Holds}
 use Rattle.pair_rule.specs.declared.view.View.{View}
 use Rattle.pair_rule.specs.declared.view.Standing.TheVariants.{Seated, Told, Closed}
@@ -115,3 +120,37 @@ module _ {T : Type 0} (may : T → ℕ → ℕ → ℕ → Type 0) (key : Key T)
         marks = λ n m h. absurd (let below = h.1 in omega arith);
         takes = λ m h. absurd (let below = h.1 in omega arith);
       })
+
+-- what stands in a table of a function
+at_range : {X : Type 0} (f : ℕ → X) (a n i : ℕ) (x : X) → get_elem? (map f (range_with_len a n)) i ≡ some x → (i < n) × (f (a + i) ≡ x)
+at_range f a zero i x e = absurd (some-ne-none x (sym e))
+at_range f a (suc n) zero x e = (omega arith, ap f (let z : a + 0 ≡ a = omega arith in z) ∙ some-injective (f a) x e)
+at_range f a (suc n) (suc i) x e = let h = at_range f (a + 1) n i x e in (let low = h.0 in omega arith, ap f (let z : a + suc i ≡ a + 1 + i = omega arith in z) ∙ h.1)
+
+-- no lane is out
+none_wide : (g : Shape) (a n : ℕ) → wide (map (first_lane g) (range_with_len a n)) ≡ 0
+none_wide g a zero = refl
+none_wide g a (suc n) = let rest = none_wide g (a + 1) n in omega arith
+
+first_is_lane : (g : Shape) → IsShape g → (q : ℕ) → q < g.recv_parts → IsLane (receiver (first_view g)) q (first_lane g q)
+first_is_lane g v q inside = record {
+  first = refl;
+  count = refl;
+  taken = ap (λ (w : ℕ). bit w (q % 32)) (first_words-at g (Take (q / 32)) v (take_word g q inside)) ∙ part_there false g.recv_parts q inside;
+  out = λ active. let no = active.1 in absurd (omega arith);
+  home = λ _. refl;
+  unreturned = λ starting. absurd (omega arith);
+  untaken = λ starting. absurd (omega arith);
+}
+
+pub first_are_lanes : (g : Shape) → IsShape g → AreLanes (receiver (first_view g)) 0 (first_lanes g)
+first_are_lanes g v = record {
+  words = first_words-length g;
+  round = omega arith;
+  order = λ _. refl;
+  parts = length-map-range_with_len (first_lane g) 0 g.recv_parts;
+  total = sym (none_wide g 0 g.recv_parts);
+  each = λ q l at. let h = at_range (first_lane g) 0 g.recv_parts q l at in
+    let is : first_lane g q ≡ l = ap (first_lane g) (let z : q ≡ 0 + q = omega arith in z) ∙ h.1 in
+    subst (IsLane (receiver (first_view g)) q) is (first_is_lane g v q h.0);
+}

@@ -5,3 +5,4 @@ pub mod Told
 pub mod Rule
 pub mod Steps
 pub mod Seats
+pub mod Parts

@@ -3,13 +3,17 @@
 
 mod buf;
 mod content;
+mod create;
 mod first;
 mod pair;
 mod plays;
+mod recv;
+mod recv_plays;
 mod rule;
 mod seats;
 mod send;
 mod split;
+mod take;
 mod view;
 mod words;
 
