@@ -1,10 +1,10 @@
 -- A pair begins by its rule: the table has the first words, each slot is home with a buffer of round 0, and the one view is that of
 -- the send side, which is alone. It shows the core's first state. No piece has a round from 1 on, so no buffer has to have marked
 -- bytes. The lanes of the receive side are those of a round in which each partition was taken and given back.
-use Rattle.std.proofs.Common.{◌≡◌, ◌≢◌, ◌⊎◌, inl, inr, ℕ, zero, suc, ◌+◌, ◌*◌, ◌/◌, ◌%◌, ◌<◌, ◌≤◌, Bool, true, false, nat_lt, List, [], ◌∷◌, length, map, get_or, replicate, Option, Some, None, refl, sym, ap, ◌∙◌, subst, arith}
+use Rattle.std.proofs.Common.{◌≡◌, ◌≢◌, inl, inr, ℕ, zero, suc, ◌+◌, ◌*◌, ◌/◌, ◌%◌, ◌<◌, ◌≤◌, true, false, nat_lt, List, [], ◌∷◌, length, map, Option, Some, refl, sym, ap, ◌∙◌, subst, arith}
 use Rattle.std.specs.Prelude.{if◌then◌else◌}
 use Rattle.std.specs.List.{range_with_len}
-use Rattle.std.proofs.lemmas.Bool.{cases_lt, lt-ltb, le-ltb}
+use Rattle.std.proofs.lemmas.Bool.{cases_lt, le-ltb}
 use Rattle.std.proofs.lemmas.List.{length-replicate, get_or-replicate, length-map}
 use Rattle.std.proofs.lemmas.List.FromFn.{length-map-range_with_len, get_or-map-range_with_len}
 use Rattle.std.proofs.lemmas.Nat.{mod-mul-add}
@@ -12,30 +12,26 @@ use mathlib.Core.Option.{some, none, some-injective, some-ne-none}
 use lib.ListN.{get_elem?}
 use Rattle.atomic_table.specs.Table.{opening}
 use Rattle.atomic_table.proofs.Lists.{at_index, at_map}
-use Rattle.gate_word.specs.Words.{round_in}
 use Rattle.part_geometry.specs.Shape.{Shape, IsShape}
 use Rattle.part_geometry.specs.Cells.{cells}
 use Rattle.part_geometry.specs.Pieces.{piece_of}
-use Rattle.pair_core.specs.Names.{Name, Take, Fits, number, take_words}
-use Rattle.pair_core.specs.Moves.{first_word, first_state}
-use Rattle.pair_core.specs.Core.{Slot, Home}
+use Rattle.pair_core.specs.Names.{Take, number}
+use Rattle.pair_core.specs.Moves.{first_state}
 use Rattle.pair_core.specs.Words.{bit}
 use Rattle.pair_core.specs.State.{word_count}
-use Rattle.slot_rows.specs.declared.lane.Lane.{Lane}
 use Rattle.slot_rows.specs.Lanes.{wide}
-use Rattle.pair_core.specs.declared.view.Life.{Life}
 use Rattle.pair_core.specs.declared.view.Life.TheVariants.{Live, Blank}
 use Rattle.pair_core.proofs.Facts.{number_lt}
 use Rattle.pair_core.proofs.Cut.{cell_piece, take_word}
 use Rattle.pair_core.proofs.Start.{piece_full, part_there}
 use Rattle.pair_core.proofs.StateNumbers.{row_lt}
-use Rattle.pair_rule.specs.Buf.{Buf, buf}
+use Rattle.pair_rule.specs.Buf.{Buf}
 use Rattle.pair_rule.specs.First.{first_words, first_buf, first_bufs, first_view, receiver}
 use Rattle.pair_rule.specs.Parts.{first_lane, first_lanes}
 use Rattle.pair_rule.specs.Seats.{AreLanes, IsLane}
-use Rattle.pair_rule.specs.Rule.{At, Shown, slot_number, cell_length, Stands, Given, Agrees, Rule, Holds}
+use Rattle.pair_rule.specs.Rule.{slot_number, cell_length, Agrees, Holds}
 use Rattle.pair_rule.specs.declared.view.View.{View}
-use Rattle.pair_rule.specs.declared.view.Standing.TheVariants.{Seated, Told, Closed}
+use Rattle.pair_rule.specs.declared.view.Standing.TheVariants.{Told, Closed}
 use Rattle.pair_rule.specs.declared.rule.Key.{Key}
 use Rattle.pair_rule.proofs.Core.{CoreLaws}
 use Rattle.pair_rule.proofs.FirstFacts.{first_words-length, first_words-at}
@@ -151,6 +147,6 @@ first_are_lanes g v = record {
   parts = length-map-range_with_len (first_lane g) 0 g.recv_parts;
   total = sym (none_wide g 0 g.recv_parts);
   each = λ q l at. let h = at_range (first_lane g) 0 g.recv_parts q l at in
-    let is : first_lane g q ≡ l = ap (first_lane g) (let z : q ≡ 0 + q = omega arith in z) ∙ h.1 in
-    subst (IsLane (receiver (first_view g)) q) is (first_is_lane g v q h.0);
+      let is : first_lane g q ≡ l = ap (first_lane g) (let z : q ≡ 0 + q = omega arith in z) ∙ h.1 in
+      subst (IsLane (receiver (first_view g)) q) is (first_is_lane g v q h.0);
 }

@@ -1,5 +1,4 @@
-use Rattle.std.proofs.Common.{◌≡◌, ◌<◌, ◌≤◌, subst, arith}
-use Rattle.part_geometry.specs.Shape.{IsShape}
+use Rattle.std.proofs.Common.{arith}
 use Rattle.part_tables.proofs.Facts.{cell-inside}
 use Rattle.pair_rule.proofs.first.cell_buf.Goals as goal
 

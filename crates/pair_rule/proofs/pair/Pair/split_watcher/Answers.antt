@@ -1,4 +1,4 @@
-use Rattle.std.proofs.Common.{rules, ◌≡◌, ◌<◌, ◌+◌, ℕ, List, length, sym, subst, arith}
+use Rattle.std.proofs.Common.{rules, ◌≡◌, ℕ, List, length, sym, subst}
 use Rattle.slot_rows.specs.declared.lane.Lane.{Lane}
 use Rattle.atomic_table.specs.Table.{Me}
 use Rattle.std.specs.Prelude.{Option}
