@@ -19,3 +19,5 @@ pub mod Marking
 pub mod Rows
 pub mod LanesStay
 pub mod MarkSeats
+pub mod Starting
+pub mod LanesKept

@@ -2,6 +2,7 @@
 use Rattle.std.specs.Prelude.{◌≡◌, ℕ, ◌+◌, ◌-◌, ◌*◌, ◌%◌, Bool, true, false, if◌then◌else◌, nat_lt, List, [], ◌++◌, map, replicate, Option, Some, None}
 use Rattle.std.specs.List.{range_with_len}
 use Rattle.part_geometry.specs.Shape.{Shape}
+use Rattle.part_geometry.specs.Cells.{cells}
 use Rattle.part_geometry.specs.Pieces.{pieces, need}
 use Rattle.gate_word.specs.Words.{word_of}
 use Rattle.pair_core.specs.Names.{claim_words, take_words}
@@ -9,6 +10,8 @@ use Rattle.pair_core.specs.Moves.{part_mask, first_state}
 use Rattle.pair_core.specs.State.{word_count}
 use Rattle.pair_core.specs.declared.view.SendSide.{SendSide}
 use Rattle.pair_core.specs.declared.view.RecvSide.{RecvSide}
+use Rattle.pair_rule.specs.Buf.{Buf, buf}
+use Rattle.pair_rule.specs.Rule.{cell_length}
 use Rattle.pair_rule.specs.Views.{told}
 use Rattle.pair_rule.specs.declared.view.View.{View}
 use Rattle.pair_rule.specs.declared.view.Standing.TheVariants.{Seated, Told, Spent, Closed}
@@ -26,6 +29,14 @@ first_at g n =
 -- the words before the first step, in order
 unfoldable pub first_words : Shape → List ℕ
 first_words g = map (first_at g) (range_with_len 0 (word_count g))
+
+-- the buffer with a number before the first step: of round 0, with as many zeros as its cell has bytes
+abbrev pub first_buf : Shape → ℕ → Buf
+first_buf g n = buf 0 (replicate (cell_length g (n % cells g)) 0)
+
+-- the buffers before the first step, those of the cells in order at each place
+unfoldable pub first_bufs : Shape → List (Option Buf)
+first_bufs g = map (λ n. Some (first_buf g n)) (range_with_len 0 (g.depth * cells g))
 
 -- a view of the seat n that has seen these words and did nothing
 abbrev pub fresh : Shape → ℕ → List ℕ → View

@@ -8,9 +8,10 @@ use Rattle.part_geometry.specs.Cells.{cells, recv_of}
 use Rattle.part_tables.specs.Parts.{first_received}
 use Rattle.pair_core.specs.Names.{Take, Return, take_words}
 use Rattle.pair_core.specs.Reading.{part_bit}
-use Rattle.pair_core.specs.Moves.{IsRecvActive}
+use Rattle.pair_core.specs.Moves.{IsRecvActive, last_round_number}
+use Rattle.pair_core.specs.State.{word_count}
 use Rattle.slot_rows.specs.declared.lane.Lane.{Lane}
-use Rattle.slot_rows.specs.Lanes.{wide, place}
+use Rattle.slot_rows.specs.Lanes.{wide}
 use Rattle.pair_rule.specs.Buf.{Buf}
 use Rattle.pair_rule.specs.Views.{seen}
 use Rattle.pair_rule.specs.declared.view.View.{View}
@@ -39,6 +40,10 @@ abbrev pub values : {S : Type 0} → List (ℕ × S) → List S
 values [] = []
 values (x ∷ xs) = x.1 ∷ values xs
 
+-- how many cells receive partition q has
+abbrev pub cells_of : Shape → ℕ → ℕ
+cells_of g q = first_received g (q + 1) - first_received g q
+
 -- buffers, and how many there is room for
 pub record Room : Type 0 where
   pub bufs : List Buf
@@ -58,16 +63,21 @@ flag true = 1
 flag false = 0
 
 -- The lane of receive partition q: its cells, whether it was taken in the round of its take word, and whether its slots are out, which
--- is only while the side is active.
+-- is only while the side is active. Until then no return word and no take word that is stored has it.
 pub record IsLane (d : View) (q : ℕ) (l : Lane) : Type 0 where
   pub first : l.first ≡ first_received d.geometry q
-  pub count : l.count ≡ first_received d.geometry (q + 1) - first_received d.geometry q
+  pub count : l.count ≡ cells_of d.geometry q
   pub taken : part_bit (λ t. seen d (Take t)) q ≡ flag l.taken
   pub out : IsRecvActive d.geometry d.recv → part_bit (λ t. seen d (Return t)) q + flag l.out ≡ flag l.taken
   pub home : ¬ IsRecvActive d.geometry d.recv → l.out ≡ false
+  pub unreturned : d.recv.takes < take_words d.geometry → q / 32 < d.recv.returns → part_bit (λ t. seen d (Return t)) q ≡ 0
+  pub untaken : d.recv.takes < take_words d.geometry → q / 32 < d.recv.takes → l.taken ≡ false
 
--- n: how many slots are out with the seat
+-- n: how many slots are out with the seat. The take words are stored after all return words.
 pub record AreLanes (d : View) (n : ℕ) (ls : List Lane) : Type 0 where
+  pub words : length d.seen ≡ word_count d.geometry
+  pub round : d.recv.round ≤ last_round_number
+  pub order : 1 ≤ d.recv.takes → d.recv.returns ≡ take_words d.geometry
   pub parts : length ls ≡ d.geometry.recv_parts
   pub total : n ≡ wide ls
   pub each : (q : ℕ) (l : Lane) → get_elem? ls q ≡ some l → IsLane d q l

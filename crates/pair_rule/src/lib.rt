@@ -3,15 +3,20 @@
 
 mod buf;
 mod content;
+mod create;
+mod first;
+mod join;
 mod looks;
 mod mark;
 mod pair;
 mod plays;
+mod recv;
+mod recv_plays;
 mod rule;
 mod seats;
 mod send;
-mod join;
 mod split;
+mod take;
 mod view;
 mod words;
 

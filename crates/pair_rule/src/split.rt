@@ -41,8 +41,8 @@ impl Split<View> for Notes {
 }
 
 impl<C: Content> Pair<C> {
-    /// The send side makes a seat for a thread that marks. The new seat has seen what the send side has seen, and has marked
-    /// nothing; the send side counts it until it is joined again.
+    /// The send side makes a seat for a thread that marks. The new seat has seen what the send side has seen, and has
+    /// marked nothing; the send side counts it until it is joined again.
     pub fn split_marker(&self, from: &mut SendSeat<C>) -> MarkSeat<C>
         requires pair { IsOf from.old.table from.old.view self.now }
         ensures from { from.new ≡ record from.old { view = with_marker from.old.view } }
@@ -56,8 +56,8 @@ impl<C: Content> Pair<C> {
         }
     }
 
-    /// The receive side makes a seat for a thread that watches partitions arrive. The new seat has seen what the receive side
-    /// has seen; the receive side counts it until it is joined again.
+    /// The receive side makes a seat for a thread that watches partitions arrive. The new seat has seen what the
+    /// receive side has seen; the receive side counts it until it is joined again.
     pub fn split_watcher(&self, from: &mut RecvSeat<C>) -> WatchSeat<C>
         requires pair { IsOf from.old.table from.old.view self.now }
         ensures from { from.new ≡ record from.old { view = with_watcher from.old.view } }

@@ -1,4 +1,4 @@
-use Rattle.std.proofs.Common.{rules, ◌≡◌, ◌<◌, ◌+◌, arith}
+use Rattle.std.proofs.Common.{rules}
 use Rattle.pair_rule.proofs.Core.{laws}
 use Rattle.pair_rule.proofs.Splitting.{note_splits}
 use Rattle.pair_rule.proofs.pair.Pair.note_of.Goals as goal

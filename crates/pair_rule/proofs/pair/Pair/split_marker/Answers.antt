@@ -1,4 +1,4 @@
-use Rattle.std.proofs.Common.{rules, ◌≡◌, ◌<◌, ◌+◌, arith}
+use Rattle.std.proofs.Common.{rules}
 use Rattle.pair_rule.proofs.Core.{laws}
 use Rattle.pair_rule.proofs.Splitting.{marker_splits}
 use Rattle.pair_rule.proofs.pair.Pair.split_marker.Goals as goal

@@ -1,4 +1,4 @@
-use Rattle.std.proofs.Common.{rules, ◌≡◌, ◌<◌, ◌+◌, ℕ, List, length, sym, subst, arith}
+use Rattle.std.proofs.Common.{rules, ◌≡◌, ℕ, List, length, sym, subst}
 use Rattle.slot_rows.specs.declared.lane.Lane.{Lane}
 use Rattle.atomic_table.specs.Table.{Me}
 use Rattle.std.specs.Prelude.{Option}
@@ -14,9 +14,20 @@ use Rattle.pair_rule.proofs.pair.Pair.split_watcher.Goals as goal
 -- a lane reads nothing that a new watcher changes
 lanes_stay : (d : View) (n : ℕ) (ls : List Lane) → AreLanes d n ls → AreLanes (with_watcher d) n ls
 lanes_stay d n ls are = record {
+  words = are.words;
+  round = are.round;
+  order = are.order;
   parts = are.parts;
   total = are.total;
-  each = λ q l at. let k = are.each q l at in record { first = k.first; count = k.count; taken = k.taken; out = k.out; home = k.home };
+  each = λ q l at. let k = are.each q l at in record {
+    first = k.first;
+    count = k.count;
+    taken = k.taken;
+    out = k.out;
+    home = k.home;
+    unreturned = k.unreturned;
+    untaken = k.untaken;
+  };
 }
 
 pub split_seat-requires : goal.split_seat-requires

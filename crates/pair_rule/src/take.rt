@@ -1,0 +1,304 @@
+//! The steps of the receive side on a partition, the buffers of its cells, and the shelves of the receive seat.
+
+ghost use Rattle.std.specs.Prelude.{◌≡◌, ◌+◌, ◌/◌, ◌%◌, ◌^◌, ◌<◌, ◌≤◌, ℕ, List, [], ◌++◌, length, map, take, drop, replicate, true, false, Option, Some, None, bit_or, slice_set, IfOk};
+ghost use mathlib.Core.Option.{some};
+ghost use lib.ListN.{get_elem?};
+ghost use Rattle.part_geometry.specs.Cells.{cells, recv_of};
+ghost use Rattle.slot_rows.specs.Lists.{row, spliced, overlaid};
+ghost use Rattle.slot_rows.specs.Lanes.{flagged, HasFlags};
+ghost use Rattle.pair_core.specs.Moves.{TakePart, ReturnPart};
+ghost use Rattle.pair_core.specs.Names.{Take, Return};
+ghost use Rattle.part_tables.specs.Parts.{first_received};
+ghost use Rattle.pair_rule.specs.Buf.{Buf};
+ghost use Rattle.pair_rule.specs.Rule.{slot_number};
+ghost use Rattle.pair_rule.specs.Views.{seen, taken, given_back};
+ghost use Rattle.pair_rule.specs.Seats.{IsOf, AreLanes, Room, cells_of};
+ghost use Rattle.pair_rule.specs.Steps.{MayMake, AreOf};
+ghost use Rattle.pair_rule.specs.Parts.{first_slot, place_of, spot, cell_spot, first_lanes, first_shelves, AreTaken, HasTaken, HasOut, HasFilled, IsOut};
+ghost use Rattle.pair_rule.specs.declared.view.Standing.TheVariants.{Seated};
+
+use crate::buf::CellBuf;
+use crate::content::Content;
+use crate::pair::Pair;
+use crate::plays::Numbers;
+use crate::recv_plays::{Finds, ReturnsPart, TakesPart};
+use crate::rule::Place;
+use crate::seats::{RecvSeat, Shelf};
+use crate::words::{return_word, take_word};
+use part_tables::Tables;
+use slot_rows::{Lane, pass_from, pass_to, set_flags, swap_in, turn_times};
+use std::alloc::{AllocError, Global};
+use std::marker::Brand;
+
+/// The bit of a partition in its word.
+fn mask(part: u32) -> u64
+    ensures { result ≡ 2 ^ (part % 32) }
+{
+    1u64 << (part % 32)
+}
+
+/// The lanes of the receive side before its first round: each partition is taken, and none is out.
+pub(crate) fn lay_lanes(alloc: Global, tables: &Tables) -> Result<Vec<Lane>, AllocError>
+    ensures { IfOk result (λ lanes. lanes.items ≡ first_lanes tables.now) }
+{
+    let parts = tables.geometry().recv_parts();
+    let mut lanes = Vec::with_capacity(alloc, parts as usize)?;
+    for q in 0..parts {
+        let (first, after) = tables.received(q as usize);
+        lanes.push(Lane {
+            first: first as u32,
+            count: (after - first) as u32,
+            taken: true,
+            out: false,
+        })?;
+    }
+    Ok(lanes)
+}
+
+/// An empty shelf for each receive partition, with room for the buffers of its cells.
+pub(crate) fn lay_shelves(
+    alloc: Global,
+    tables: &Tables,
+) -> Result<Vec<Option<Shelf>>, AllocError>
+    ensures { IfOk result (λ shelves. shelves.items ≡ first_shelves tables.now) }
+{
+    let parts = tables.geometry().recv_parts();
+    let mut shelves = Vec::with_capacity(alloc, parts as usize)?;
+    for q in 0..parts {
+        let (first, after) = tables.received(q as usize);
+        shelves.push(Some(Shelf::with_room(alloc, after - first)?))?;
+    }
+    Ok(shelves)
+}
+
+impl<C: Content> RecvSeat<C> {
+    /// Takes the shelf of partition `q` out of the seat.
+    pub fn take_shelf(&mut self, q: u32) -> Shelf
+        requires there { (shelf : Room) × (get_elem? self.old.shelves q ≡ some (Some shelf)) }
+        ensures shelf { get_elem? self.old.shelves q ≡ some (Some result) }
+        ensures seat { self.new ≡ record self.old { shelves = slice_set self.old.shelves q None } }
+    {
+        self.shelves[q as usize].take().unwrap()
+    }
+
+    /// Puts a shelf for partition `q` into the seat.
+    pub fn put_shelf(&mut self, q: u32, shelf: Shelf)
+        requires part { q < self.old.view.geometry.recv_parts }
+        ensures seat { self.new ≡ record self.old { shelves = slice_set self.old.shelves q (Some shelf) } }
+    {
+        self.shelves[q as usize] = Some(shelf);
+    }
+}
+
+impl<C: Content> Pair<C> {
+    fn take_bit_as<X: Finds>(&self, seat: &mut Place, lanes: &[Lane], q: u32) -> u64
+        requires said { q ≡ X.part }
+        requires may { (k i b : ℕ) → C.may self.now.key.tag k i b → X.may k i b }
+        requires pair { IsOf seat.old.table_id seat.old.me.0 self.now }
+        requires live { seat.old.me.0.standing ≡ Seated }
+        requires lanes { AreLanes seat.old.me.0 (length seat.old.me.1) lanes.now }
+        requires allowed { MayMake seat.old.me.0 (TakePart q []) }
+        ensures seat { (seat.new.table_id ≡ seat.old.table_id) × (seat.new.id ≡ seat.old.id) }
+        ensures word { result ≡ seen seat.old.me.0 (Take (q / 32)) }
+        ensures step { (bufs : List Buf) × (with : List ℕ) × AreTaken X.may seat.old.me.0 q bufs with × (seat.new.me ≡ (taken q with (bit_or result (2 ^ (q % 32))) seat.old.me.0, spliced (spot lanes.now q) (first_slot seat.old.me.0.geometry (place_of seat.old.me.0) q) (map Some bufs) seat.old.me.1)) }
+    {
+        let mask = mask(q);
+        let at = q as usize;
+        let count = lanes[at].count as usize;
+        let word = take_word(&self.tables, at / 32);
+        pass_to(seat, lanes, at);
+        let found = self
+            .table
+            .shared
+            .fetch_or::<TakesPart<X>>(seat, word, mask);
+        turn_times(seat, count);
+        pass_from(seat, lanes, at);
+        found
+    }
+
+    fn return_bit_as<X: Numbers>(&self, seat: &mut Place, lanes: &[Lane], q: u32) -> u64
+        requires said { q ≡ X.one }
+        requires pair { IsOf seat.old.table_id seat.old.me.0 self.now }
+        requires live { seat.old.me.0.standing ≡ Seated }
+        requires lanes { AreLanes seat.old.me.0 (length seat.old.me.1) lanes.now }
+        requires allowed { MayMake seat.old.me.0 (ReturnPart q) }
+        requires held { (bufs : List Buf) × (length bufs ≡ cells_of seat.old.me.0.geometry q) × (take (cells_of seat.old.me.0.geometry q) (drop (spot lanes.now q) seat.old.me.1) ≡ row (first_slot seat.old.me.0.geometry (place_of seat.old.me.0) q) (map Some bufs)) × AreOf seat.old.me.0.geometry seat.old.me.0.recv.round (first_received seat.old.me.0.geometry q) bufs }
+        ensures seat { (seat.new.table_id ≡ seat.old.table_id) × (seat.new.id ≡ seat.old.id) }
+        ensures word { result ≡ seen seat.old.me.0 (Return (q / 32)) }
+        ensures step { seat.new.me ≡ (given_back q (bit_or result (2 ^ (q % 32))) seat.old.me.0, take (spot lanes.now q) seat.old.me.1 ++ drop (spot lanes.now q + cells_of seat.old.me.0.geometry q) seat.old.me.1) }
+    {
+        let mask = mask(q);
+        let at = q as usize;
+        let word = return_word(&self.tables, at / 32);
+        pass_to(seat, lanes, at);
+        let found = self
+            .table
+            .shared
+            .fetch_or::<ReturnsPart<X>>(seat, word, mask);
+        pass_from(seat, lanes, at + 1);
+        found
+    }
+
+    /// The receive side takes partition `q` of its round, in one atomic step: the slots of its cells go out to the seat. The side
+    /// is active, the partition isn't taken in its round, and the seat has seen all pieces over it full. Answers the partition's
+    /// take word as the step found it, which is as the seat has last seen it.
+    pub fn take_bit(&self, seat: &mut RecvSeat<C>, q: u32) -> u64
+        requires pair { IsOf seat.old.table seat.old.view self.now }
+        requires allowed { MayMake seat.old.view (TakePart q []) }
+        ensures word { result ≡ seen seat.old.view (Take (q / 32)) }
+        ensures step { HasTaken (C.may self.now.key.tag) q (bit_or result (2 ^ (q % 32))) seat.old seat.new }
+    {
+        let found = self.take_bit_as::<Brand>(&mut seat.seat, &seat.lanes, q);
+        set_flags(&mut seat.lanes, q as usize, true, true);
+        found
+    }
+
+    /// The receive side gives partition `q` back, in one atomic step: the slots of its cells come home, each with a buffer of the
+    /// round and its cell's length. The side is active, and the partition is taken in its round and not given back. Answers
+    /// the partition's return word as the step found it, which is as the seat has last seen it.
+    pub fn return_bit(&self, seat: &mut RecvSeat<C>, q: u32) -> u64
+        requires pair { IsOf seat.old.table seat.old.view self.now }
+        requires allowed { MayMake seat.old.view (ReturnPart q) }
+        requires held { HasFilled q seat.old }
+        ensures word { result ≡ seen seat.old.view (Return (q / 32)) }
+        ensures step { seat.new ≡ record seat.old { view = given_back q (bit_or result (2 ^ (q % 32))) seat.old.view; lanes = flagged true false q seat.old.lanes; slots = take (spot seat.old.lanes q) seat.old.slots ++ drop (spot seat.old.lanes q + cells_of seat.old.view.geometry q) seat.old.slots } }
+    {
+        let found = self.return_bit_as::<Brand>(&mut seat.seat, &seat.lanes, q);
+        set_flags(&mut seat.lanes, q as usize, true, false);
+        found
+    }
+
+    /// A plain exchange of the slot of a cell of partition `q`, `index` cells behind its first one.
+    fn swap_part(
+        &self,
+        seat: &mut Place,
+        lanes: &[Lane],
+        place: u32,
+        q: u32,
+        index: u32,
+        new: Option<CellBuf>,
+    ) -> Option<CellBuf>
+        requires pair { IsOf seat.old.table_id seat.old.me.0 self.now }
+        requires lanes { AreLanes seat.old.me.0 (length seat.old.me.1) lanes.now }
+        requires place { place < self.now.key.geometry.depth }
+        requires out { HasFlags true true q lanes.now }
+        requires index { index < cells_of seat.old.me.0.geometry q }
+        requires held { (old : Option Buf) × (get_elem? seat.old.me.1 (spot lanes.now q + index) ≡ some (first_slot seat.old.me.0.geometry place q + index, old)) }
+        ensures seat { (seat.new.table_id ≡ seat.old.table_id) × (seat.new.id ≡ seat.old.id) }
+        ensures found { get_elem? seat.old.me.1 (spot lanes.now q + index) ≡ some (first_slot seat.old.me.0.geometry place q + index, result) }
+        ensures slots { seat.new.me ≡ (seat.old.me.0, slice_set seat.old.me.1 (spot lanes.now q + index) (first_slot seat.old.me.0.geometry place q + index, new)) }
+    {
+        let (first, _after) = self.tables.received(q as usize);
+        let slot = place as usize * self.tables.cells() + first + index as usize;
+        swap_in(
+            &self.table.shared,
+            seat,
+            lanes,
+            q as usize,
+            index as usize,
+            slot,
+            new,
+        )
+    }
+
+    /// The buffers of partition `q` go onto the shelf, the first one first.
+    fn lend_row(&self, seat: &mut Place, lanes: &[Lane], place: u32, q: u32, shelf: &mut Shelf)
+        requires pair { IsOf seat.old.table_id seat.old.me.0 self.now }
+        requires lanes { AreLanes seat.old.me.0 (length seat.old.me.1) lanes.now }
+        requires place { place < self.now.key.geometry.depth }
+        requires out { HasFlags true true q lanes.now }
+        requires held { (bufs : List Buf) × (length bufs ≡ cells_of seat.old.me.0.geometry q) × (take (cells_of seat.old.me.0.geometry q) (drop (spot lanes.now q) seat.old.me.1) ≡ row (first_slot seat.old.me.0.geometry place q) (map Some bufs)) }
+        requires room { (shelf.old.bufs ≡ []) × (cells_of seat.old.me.0.geometry q ≤ shelf.old.room) }
+        ensures seat { (seat.new.table_id ≡ seat.old.table_id) × (seat.new.id ≡ seat.old.id) }
+        ensures slots { seat.new.me ≡ (seat.old.me.0, overlaid (spot lanes.now q) (first_slot seat.old.me.0.geometry place q) (replicate (cells_of seat.old.me.0.geometry q) None) seat.old.me.1) }
+        ensures size { (length shelf.new.bufs ≡ cells_of seat.old.me.0.geometry q) × (shelf.old.room ≤ shelf.new.room) }
+        ensures bufs { row (first_slot seat.old.me.0.geometry place q) (map Some shelf.new.bufs) ≡ take (cells_of seat.old.me.0.geometry q) (drop (spot lanes.now q) seat.old.me.1) }
+    {
+        let count = lanes[q as usize].count;
+        for index in 0..count {
+            let buf = self.swap_part(seat, lanes, place, q, index, None).unwrap();
+            shelf.push(buf);
+        }
+    }
+
+    /// The buffers of the shelf go into the slots of partition `q`, the last one first.
+    fn put_row(&self, seat: &mut Place, lanes: &[Lane], place: u32, q: u32, shelf: &mut Shelf)
+        requires pair { IsOf seat.old.table_id seat.old.me.0 self.now }
+        requires lanes { AreLanes seat.old.me.0 (length seat.old.me.1) lanes.now }
+        requires place { place < self.now.key.geometry.depth }
+        requires out { HasFlags true true q lanes.now }
+        requires full { length shelf.old.bufs ≡ cells_of seat.old.me.0.geometry q }
+        requires held { take (cells_of seat.old.me.0.geometry q) (drop (spot lanes.now q) seat.old.me.1) ≡ row (first_slot seat.old.me.0.geometry place q) (replicate (cells_of seat.old.me.0.geometry q) None) }
+        ensures seat { (seat.new.table_id ≡ seat.old.table_id) × (seat.new.id ≡ seat.old.id) }
+        ensures slots { seat.new.me ≡ (seat.old.me.0, overlaid (spot lanes.now q) (first_slot seat.old.me.0.geometry place q) (map Some shelf.old.bufs) seat.old.me.1) }
+        ensures shelf { (shelf.new.bufs ≡ []) × (shelf.new.room ≡ shelf.old.room) }
+    {
+        let count = lanes[q as usize].count;
+        for index in (0..count).rev() {
+            let buf = shelf.pop();
+            let old = self.swap_part(seat, lanes, place, q, index, Some(buf));
+            let None = old else { unreachable!() };
+        }
+    }
+
+    /// Takes the buffer of a cell at a place out of its slot, which is out with the seat.
+    pub fn lend_taken(&self, seat: &mut RecvSeat<C>, place: u32, cell: u32) -> CellBuf
+        requires pair { IsOf seat.old.table seat.old.view self.now }
+        requires place { place < self.now.key.geometry.depth }
+        requires cell { cell < cells self.now.key.geometry }
+        requires out { HasFlags true true (recv_of self.now.key.geometry cell) seat.old.lanes }
+        requires held { (buf : Buf) × IsOut place cell (Some buf) seat.old }
+        ensures found { IsOut place cell (Some result) seat.old }
+        ensures seat { seat.new ≡ record seat.old { slots = slice_set seat.old.slots (cell_spot seat.old.view.geometry seat.old.lanes cell) (slot_number seat.old.view.geometry place cell, None) } }
+    {
+        let q = self.tables.cell(cell as usize).recv;
+        let (first, _after) = self.tables.received(q as usize);
+        let index = cell - first as u32;
+        let old = self.swap_part(&mut seat.seat, &seat.lanes, place, q, index, None);
+        old.unwrap()
+    }
+
+    /// Puts a buffer into the slot of a cell at a place, which is out with the seat and empty.
+    pub fn put_taken(&self, seat: &mut RecvSeat<C>, place: u32, cell: u32, buf: CellBuf)
+        requires pair { IsOf seat.old.table seat.old.view self.now }
+        requires place { place < self.now.key.geometry.depth }
+        requires cell { cell < cells self.now.key.geometry }
+        requires out { HasFlags true true (recv_of self.now.key.geometry cell) seat.old.lanes }
+        requires held { IsOut place cell None seat.old }
+        ensures seat { seat.new ≡ record seat.old { slots = slice_set seat.old.slots (cell_spot seat.old.view.geometry seat.old.lanes cell) (slot_number seat.old.view.geometry place cell, Some buf) } }
+    {
+        let q = self.tables.cell(cell as usize).recv;
+        let (first, _after) = self.tables.received(q as usize);
+        let index = cell - first as u32;
+        let old = self.swap_part(&mut seat.seat, &seat.lanes, place, q, index, Some(buf));
+        let None = old else { unreachable!() };
+    }
+
+    /// Takes the buffers of all cells of partition `q` at a place out of their slots, which are out with the seat, and puts them
+    /// on an empty shelf with room for them, in the order of the cells. It takes no memory.
+    pub fn lend_all(&self, seat: &mut RecvSeat<C>, place: u32, q: u32, shelf: &mut Shelf)
+        requires pair { IsOf seat.old.table seat.old.view self.now }
+        requires place { place < self.now.key.geometry.depth }
+        requires out { HasFlags true true q seat.old.lanes }
+        requires held { (bufs : List Buf) × HasOut place q (map Some bufs) seat.old }
+        requires room { (shelf.old.bufs ≡ []) × (cells_of seat.old.view.geometry q ≤ shelf.old.room) }
+        ensures seat { seat.new ≡ record seat.old { slots = overlaid (spot seat.old.lanes q) (first_slot seat.old.view.geometry place q) (replicate (cells_of seat.old.view.geometry q) None) seat.old.slots } }
+        ensures shelf { HasOut place q (map Some shelf.new.bufs) seat.old × (shelf.old.room ≤ shelf.new.room) }
+    {
+        self.lend_row(&mut seat.seat, &seat.lanes, place, q, shelf);
+    }
+
+    /// Puts the buffers of a shelf into the slots of all cells of partition `q` at a place, which are out with the seat and
+    /// empty, in the order of the cells. The shelf is empty then.
+    pub fn put_all(&self, seat: &mut RecvSeat<C>, place: u32, q: u32, shelf: &mut Shelf)
+        requires pair { IsOf seat.old.table seat.old.view self.now }
+        requires place { place < self.now.key.geometry.depth }
+        requires out { HasFlags true true q seat.old.lanes }
+        requires full { length shelf.old.bufs ≡ cells_of seat.old.view.geometry q }
+        requires held { HasOut place q (replicate (cells_of seat.old.view.geometry q) None) seat.old }
+        ensures seat { seat.new ≡ record seat.old { slots = overlaid (spot seat.old.lanes q) (first_slot seat.old.view.geometry place q) (map Some shelf.old.bufs) seat.old.slots } }
+        ensures shelf { (shelf.new.bufs ≡ []) × (shelf.new.room ≡ shelf.old.room) }
+    {
+        self.put_row(&mut seat.seat, &seat.lanes, place, q, shelf);
+    }
+}
