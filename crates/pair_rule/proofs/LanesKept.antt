@@ -346,3 +346,30 @@ module _ (d : View) (q n v : ℕ) (ls : List Lane) (a : AreLanes d n ls) where
               } in made)
             (flagged_at true false q ls p l at);
       }
+
+-- ---- lanes by steps of a loop
+
+pub untaken_none : (k : ℕ) (ls : List Lane) → untaken k 0 ls ≡ ls
+untaken_none k [] = refl
+untaken_none zero (x ∷ xs) = refl
+untaken_none (suc k) (x ∷ xs) = ap (λ (z : List Lane). x ∷ z) (untaken_none k xs)
+
+-- one lane more
+pub untaken_more : (k n : ℕ) (ls : List Lane) → flagged false false (k + n) (untaken k n ls) ≡ untaken k (suc n) ls
+untaken_more k n [] = refl
+untaken_more zero zero (x ∷ xs) = ap (λ (z : List Lane). record x { taken = false; out = false } ∷ z) (sym (untaken_none zero xs))
+untaken_more zero (suc n) (x ∷ xs) = ap (λ (z : List Lane). record x { taken = false; out = false } ∷ z) (untaken_more zero n xs)
+untaken_more (suc k) n (x ∷ xs) = ap (λ (z : List Lane). x ∷ z) (untaken_more k n xs)
+
+-- there are no more lanes
+pub untaken_all : (k n m : ℕ) (ls : List Lane) → length ls ≤ k + n → n ≤ m → untaken k n ls ≡ untaken k m ls
+untaken_all k n m [] few less = refl
+untaken_all zero zero m (x ∷ xs) few less = absurd (omega arith)
+untaken_all zero (suc n) zero (x ∷ xs) few less = absurd (omega arith)
+untaken_all zero (suc n) (suc m) (x ∷ xs) few less = ap (λ (z : List Lane). record x { taken = false; out = false } ∷ z) (untaken_all zero n m xs (omega arith) (omega arith))
+untaken_all (suc k) n m (x ∷ xs) few less = ap (λ (z : List Lane). x ∷ z) (untaken_all k n m xs (omega arith) less)
+
+pub lane_there : (ls : List Lane) (q : ℕ) → q < length ls → (l : Lane) × (get_elem? ls q ≡ some l)
+lane_there [] q h = absurd (omega arith)
+lane_there (x ∷ xs) zero h = (x, refl)
+lane_there (x ∷ xs) (suc q) h = lane_there xs q (omega arith)

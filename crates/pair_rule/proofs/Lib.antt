@@ -11,3 +11,4 @@ pub mod Laying
 pub mod Taking
 pub mod Returning
 pub mod LanesKept
+pub mod RecvCalls
