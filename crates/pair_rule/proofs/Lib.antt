@@ -12,3 +12,4 @@ pub mod Taking
 pub mod Returning
 pub mod LanesKept
 pub mod RecvCalls
+pub mod TakeCalls
