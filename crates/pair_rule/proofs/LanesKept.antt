@@ -1,6 +1,6 @@
 -- The lanes of the receive seat agree with what it knows after each of its steps. A step changes one word that the seat has seen:
 -- of a lane's bits, those of other words are as before, and in the word itself the bits are all 0, or one is set.
-use Rattle.std.proofs.Common.{◌≡◌, ◌≢◌, ◌⊎◌, inl, inr, ⊎_elim, ℕ, zero, suc, ◌+◌, ◌-◌, ◌*◌, ◌%◌, ◌/◌, ◌^◌, ◌<◌, ◌≤◌, Bool, true, false, List, [], ◌∷◌, length, get_or, set, drop, bit_or, Option, refl, sym, ap, ◌∙◌, subst, arith, length-set, get_or-set_same, get_or-set_other, div-add-mod'}
+use Rattle.std.proofs.Common.{◌≡◌, ◌≢◌, ◌⊎◌, inl, inr, ⊎_elim, ℕ, zero, suc, ◌+◌, ◌-◌, ◌*◌, ◌%◌, ◌/◌, ◌^◌, ◌<◌, ◌≤◌, Bool, true, false, List, [], ◌∷◌, length, get_or, set, take, drop, ◌++◌, take_at, bit_or, Option, refl, sym, ap, ◌∙◌, subst, arith, length-set, get_or-set_same, get_or-set_other, div-add-mod'}
 use mathlib.Core.Logic.{dite}
 use mathlib.Core.Option.{some, some-injective, some-ne-none}
 use native.Mathlib.Decide.{ℕ_discrete}
@@ -382,3 +382,11 @@ pub lane_spot : (d : View) (q n : ℕ) (ls : List Lane) → AreLanes d n ls → 
 lane_spot d q n ls a h =
     let there = lane_there ls q (let p = a.parts in let i = h.1 in omega arith) in
     let f = may_return d q n ls there.0 h a there.1 in let s = spot true q ls f in let c = (a.each q f.lane f.at).count in let t = a.total in omega arith
+
+-- a lane with flags is that of a partition
+pub flags_there : (d : View) (n q : ℕ) (ls : List Lane) (t o : Bool) → AreLanes d n ls → HasFlags t o q ls → q < d.geometry.recv_parts
+flags_there d n q ls t o a f = part_there d n q ls f.lane a f.at
+
+-- lanes that were written back over a vector's
+pub written : (n : ℕ) (new old : List Lane) → length new ≡ length old → length old ≡ n → take n (new ++ drop (length new) old) ≡ new
+written n new old e f = take_at new (drop (length new) old) n (e ∙ f)
