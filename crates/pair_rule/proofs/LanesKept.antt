@@ -1,6 +1,7 @@
 -- The lanes of the receive seat agree with what it knows after each of its steps. A step changes one word that the seat has seen:
 -- of a lane's bits, those of other words are as before, and in the word itself the bits are all 0, or one is set.
-use Rattle.std.proofs.Common.{◌≡◌, ◌≢◌, ◌⊎◌, inl, inr, ⊎_elim, ℕ, zero, suc, ◌+◌, ◌-◌, ◌*◌, ◌%◌, ◌/◌, ◌^◌, ◌<◌, ◌≤◌, Bool, true, false, List, [], ◌∷◌, length, get_or, set, bit_or, Option, refl, sym, ap, ◌∙◌, subst, arith, length-set, get_or-set_same, get_or-set_other, div-add-mod'}
+use Rattle.part_geometry.specs.declared.TheConstants.{LAST_ROUND}
+use Rattle.std.proofs.Common.{◌≡◌, ◌≢◌, ◌⊎◌, inl, inr, ⊎_elim, ℕ, zero, suc, ◌+◌, ◌-◌, ◌*◌, ◌%◌, ◌/◌, ◌^◌, ◌<◌, ◌≤◌, Bool, true, false, List, [], ◌∷◌, length, get_or, set, take, drop, ◌++◌, take_at, bit_or, Option, refl, sym, ap, ◌∙◌, subst, arith, length-set, get_or-set_same, get_or-set_other, div-add-mod'}
 use mathlib.Core.Logic.{dite}
 use mathlib.Core.Option.{some, some-injective, some-ne-none}
 use native.Mathlib.Decide.{ℕ_discrete}
@@ -11,12 +12,12 @@ use Rattle.pair_core.specs.Words.{bit, empty}
 use Rattle.pair_core.specs.Names.{Name, Release, Take, Return, Fits, number, take_words}
 use Rattle.pair_core.specs.Reading.{part_bit}
 use Rattle.pair_core.specs.State.{word_count}
-use Rattle.pair_core.specs.Moves.{Move, StoreReturn, StoreTake, StoreRelease, TakePart, ReturnPart, IsRecvActive, IsRecvIdle, last_round_number}
+use Rattle.pair_core.specs.Moves.{Move, StoreReturn, StoreTake, StoreRelease, TakePart, ReturnPart, IsRecvActive, IsRecvIdle}
 use Rattle.pair_core.proofs.Facts.{number_lt, number_one, bit_lt, bit_or_here, bit_or_else, empty_bit}
 use Rattle.slot_rows.specs.declared.lane.Lane.{Lane}
-use Rattle.slot_rows.specs.Lanes.{wide, flagged, HasFlags}
+use Rattle.slot_rows.specs.Lanes.{wide, place, flagged, HasFlags}
 use Rattle.slot_rows.proofs.Lists.{at_split}
-use Rattle.slot_rows.proofs.Lanes.{flagged_at, flagged_length, wide_out, wide_home, home_width}
+use Rattle.slot_rows.proofs.Lanes.{flagged_at, flagged_length, wide_out, wide_home, home_width, spot}
 use Rattle.pair_rule.specs.Views.{seen, saw, stored_return, stored_take, released, taken, given_back}
 use Rattle.pair_rule.specs.Seats.{IsLane, AreLanes, flag, cells_of}
 use Rattle.pair_rule.specs.Steps.{MayMake}
@@ -346,3 +347,47 @@ module _ (d : View) (q n v : ℕ) (ls : List Lane) (a : AreLanes d n ls) where
               } in made)
             (flagged_at true false q ls p l at);
       }
+
+-- ---- lanes by steps of a loop
+
+pub untaken_none : (k : ℕ) (ls : List Lane) → untaken k 0 ls ≡ ls
+untaken_none k [] = refl
+untaken_none zero (x ∷ xs) = refl
+untaken_none (suc k) (x ∷ xs) = ap (λ (z : List Lane). x ∷ z) (untaken_none k xs)
+
+-- one lane more
+pub untaken_more : (k n m : ℕ) (ls : List Lane) → m ≡ k + n → flagged false false m (untaken k n ls) ≡ untaken k (suc n) ls
+untaken_more k n m [] e = refl
+untaken_more zero zero zero (x ∷ xs) e = ap (λ (z : List Lane). record x { taken = false; out = false } ∷ z) (sym (untaken_none zero xs))
+untaken_more zero zero (suc m) (x ∷ xs) e = absurd (omega arith)
+untaken_more zero (suc n) zero (x ∷ xs) e = absurd (omega arith)
+untaken_more zero (suc n) (suc m) (x ∷ xs) e = ap (λ (z : List Lane). record x { taken = false; out = false } ∷ z) (untaken_more zero n m xs (omega arith))
+untaken_more (suc k) n zero (x ∷ xs) e = absurd (omega arith)
+untaken_more (suc k) n (suc m) (x ∷ xs) e = ap (λ (z : List Lane). x ∷ z) (untaken_more k n m xs (omega arith))
+
+-- there are no more lanes
+pub untaken_all : (k n m : ℕ) (ls : List Lane) → length ls ≤ k + n → n ≤ m → untaken k n ls ≡ untaken k m ls
+untaken_all k n m [] few less = refl
+untaken_all zero zero m (x ∷ xs) few less = absurd (omega arith)
+untaken_all zero (suc n) zero (x ∷ xs) few less = absurd (omega arith)
+untaken_all zero (suc n) (suc m) (x ∷ xs) few less = ap (λ (z : List Lane). record x { taken = false; out = false } ∷ z) (untaken_all zero n m xs (omega arith) (omega arith))
+untaken_all (suc k) n m (x ∷ xs) few less = ap (λ (z : List Lane). x ∷ z) (untaken_all k n m xs (omega arith) less)
+
+pub lane_there : (ls : List Lane) (q : ℕ) → q < length ls → (l : Lane) × (get_elem? ls q ≡ some l)
+lane_there [] q h = absurd (omega arith)
+lane_there (x ∷ xs) zero h = (x, refl)
+lane_there (x ∷ xs) (suc q) h = lane_there xs q (omega arith)
+
+-- where the slots of a partition stand that may be given back, with what is behind them
+pub lane_spot : (d : View) (q n : ℕ) (ls : List Lane) → AreLanes d n ls → MayMake d (ReturnPart q) → place ls q + (cells_of d.geometry q + wide (drop (q + 1) ls)) ≡ n
+lane_spot d q n ls a h =
+    let there = lane_there ls q (let p = a.parts in let i = h.1 in omega arith) in
+    let f = may_return d q n ls there.0 h a there.1 in let s = spot true q ls f in let c = (a.each q f.lane f.at).count in let t = a.total in omega arith
+
+-- a lane with flags is that of a partition
+pub flags_there : (d : View) (n q : ℕ) (ls : List Lane) (t o : Bool) → AreLanes d n ls → HasFlags t o q ls → q < d.geometry.recv_parts
+flags_there d n q ls t o a f = part_there d n q ls f.lane a f.at
+
+-- lanes that were written back over a vector's
+pub written : (n : ℕ) (new old : List Lane) → length new ≡ length old → length old ≡ n → take n (new ++ drop (length new) old) ≡ new
+written n new old e f = take_at new (drop (length new) old) n (e ∙ f)

@@ -1,15 +1,23 @@
--- A look at a claim word or at the word of a piece: what the receive seat has seen of its own words is as it was, and so its
--- lanes are.
-use Rattle.std.proofs.Common.{◌≡◌, ◌≢◌, ℕ, ◌+◌, ◌/◌, ◌%◌, ◌<◌, List, ap, ◌∙◌, subst}
+-- What the receive seat has seen of its own words is as it was after a look, after it is told something, and after it has made a watcher
+-- or taken one back; and so its lanes are.
+use Rattle.std.proofs.Common.{◌≡◌, ◌≢◌, ℕ, ◌+◌, ◌-◌, ◌*◌, ◌/◌, ◌%◌, ◌<◌, Bool, true, false, ◌==◌, ◌&&◌, nat_lt, List, map, length, get_or, refl, sym, ap, ◌∙◌, subst, arith, length-set}
+use Rattle.std.specs.Prelude.{if◌then◌else◌}
+use Rattle.std.specs.List.{range_with_len}
+use Rattle.std.proofs.lemmas.Bool.{eq-eqb, lt-ltb}
 use Rattle.std.proofs.lemmas.List.{get_or-set_other}
+use Rattle.std.proofs.lemmas.List.FromFn.{length-map-range_with_len, get_or-map-range_with_len}
+use Rattle.gate_word.specs.Order.{join_of}
 use Rattle.pair_core.specs.Words.{bit}
-use Rattle.pair_core.specs.Names.{Name, Claim, Take, Return, Piece, Fits, number}
-use Rattle.pair_core.proofs.Facts.{number_one}
+use Rattle.pair_core.specs.Names.{Name, Claim, Take, Return, Piece, Fits, number, claim_words, take_words}
+use Rattle.pair_core.specs.State.{word_count}
+use Rattle.pair_core.proofs.Facts.{number_one, number_lt}
 use Rattle.slot_rows.specs.declared.lane.Lane.{Lane}
 use Rattle.slot_rows.proofs.Lists.{at_split}
-use Rattle.pair_rule.specs.Views.{seen, saw}
+use Rattle.pair_rule.specs.First.{with_watcher, with_watcher_back}
+use Rattle.pair_rule.specs.Views.{seen, saw, told, told_word, is_own}
 use Rattle.pair_rule.specs.Seats.{AreLanes, flag}
 use Rattle.pair_rule.specs.declared.view.View.{View}
+use Rattle.pair_core.specs.declared.view.RecvSide.{RecvSide}
 use Rattle.pair_rule.proofs.Allowed.{word_there}
 
 -- the word x isn't the receive seat's own
@@ -22,26 +30,72 @@ other_claim c t = ((λ e. absurd (cc)), (λ e. absurd (cc)))
 pub other_piece : (d i : ℕ) → IsOther (Piece d i)
 other_piece d i t = ((λ e. absurd (cc)), (λ e. absurd (cc)))
 
--- the word y is as it was seen before the look at x
-seen_else : (d : View) (x y : Name) (w : ℕ) → Fits d.geometry x → Fits d.geometry y → y ≢ x → seen (saw x w d) y ≡ seen d y
-seen_else d x y w fits there other =
-    get_or-set_other d.seen (number d.geometry x) (number d.geometry y) w 0 (λ e. other (number_one d.geometry y x there fits e))
+-- the same view, where it has seen these words, looked so often, and counts and has made so many watchers
+abbrev seeing : View → List ℕ → List ℕ → ℕ → ℕ → View
+seeing d words often made watchers = record d { seen = words; looks = often; made = made; recv = record d.recv { watchers = watchers } }
 
-pub lanes_stay : (d : View) (x : Name) (w n : ℕ) (ls : List Lane) → Fits d.geometry x → IsOther x → AreLanes d n ls → AreLanes (saw x w d) n ls
-lanes_stay d x w n ls fits other lanes = record {
+lanes_seeing : (d : View) (words often : List ℕ) (made watchers n : ℕ) (ls : List Lane) → length words ≡ length d.seen
+    → ((t : ℕ) → t < take_words d.geometry → (get_or words (number d.geometry (Take t)) 0 ≡ seen d (Take t)) × (get_or words (number d.geometry (Return t)) 0 ≡ seen d (Return t)))
+    → AreLanes d n ls → AreLanes (seeing d words often made watchers) n ls
+lanes_seeing d words often made watchers n ls size same lanes = record {
+  words = size ∙ lanes.words;
+  round = lanes.round;
+  order = lanes.order;
   parts = lanes.parts;
   total = lanes.total;
   each = λ q l at.
       let a = lanes.each q l at in
       let low : q < d.geometry.recv_parts = subst (λ (z : ℕ). q < z) lanes.parts (at_split ls q l at).0 in
-      let there = word_there q d.geometry.recv_parts low in
-      let took = ap (λ (z : ℕ). bit z (q % 32)) (seen_else d x (Take (q / 32)) w fits there (other (q / 32)).0) in
-      let gave = ap (λ (z : ℕ). bit z (q % 32)) (seen_else d x (Return (q / 32)) w fits there (other (q / 32)).1) in
+      let there = same (q / 32) (word_there q d.geometry.recv_parts low) in
+      let took = ap (λ (z : ℕ). bit z (q % 32)) there.0 in
+      let gave = ap (λ (z : ℕ). bit z (q % 32)) there.1 in
       record {
         first = a.first;
         count = a.count;
         taken = took ∙ a.taken;
         out = λ active. ap (λ (z : ℕ). z + flag l.out) gave ∙ a.out active;
         home = a.home;
+        unreturned = λ opening stored. gave ∙ a.unreturned opening stored;
+        untaken = a.untaken;
       };
 }
+
+-- the word y is as it was seen before the look at x
+seen_else : (d : View) (x y : Name) (w : ℕ) → Fits d.geometry x → Fits d.geometry y → y ≢ x → seen (saw x w d) y ≡ seen d y
+seen_else d x y w fits there other =
+    get_or-set_other d.seen (number d.geometry x) (number d.geometry y) w 0 (λ e. other (number_one d.geometry y x there fits e))
+
+pub lanes_stay : (d : View) (x : Name) (w n : ℕ) (ls : List Lane) → Fits d.geometry x → IsOther x → AreLanes d n ls → AreLanes (saw x w d) n ls
+lanes_stay d x w n ls fits other lanes =
+    lanes_seeing d (saw x w d).seen (saw x w d).looks d.made d.recv.watchers n ls (length-set d.seen (number d.geometry x) w)
+      (λ t there. (seen_else d x (Take t) w fits there (other t).0, seen_else d x (Return t) w fits there (other t).1)) lanes
+
+pub lanes_split : (d : View) (n : ℕ) (ls : List Lane) → AreLanes d n ls → AreLanes (with_watcher d) n ls
+lanes_split d n ls lanes = lanes_seeing d d.seen d.looks (d.made + 1) (d.recv.watchers + 1) n ls refl (λ t there. (refl, refl)) lanes
+
+-- of the receive side's own words
+own_word : (d e : View) (n : ℕ) → d.number ≡ 1 → claim_words d.geometry < n → n < claim_words d.geometry + 1 + 2 * take_words d.geometry → told_word d e n ≡ get_or d.seen n 0
+own_word d e n oneth low high =
+    let own : is_own d n ≡ true = (λ i. eq-eqb d.number 1 oneth i && (lt-ltb (claim_words d.geometry) n low i && lt-ltb n (claim_words d.geometry + 1 + 2 * take_words d.geometry) high i)) in
+    ap (λ (b : Bool). if b then get_or d.seen n 0 else join_of (get_or d.seen n 0) (get_or e.seen n 0)) own
+
+own_seen : (d e : View) (x : Name) → d.number ≡ 1 → Fits d.geometry x → claim_words d.geometry < number d.geometry x → number d.geometry x < claim_words d.geometry + 1 + 2 * take_words d.geometry
+    → get_or (told d e).seen (number d.geometry x) 0 ≡ seen d x
+own_seen d e x oneth fits low high =
+    get_or-map-range_with_len (told_word d e) 0 (word_count d.geometry) (number d.geometry x) (number d.geometry x) 0 (number_lt d.geometry x fits)
+      (let z : 0 + number d.geometry x ≡ number d.geometry x = omega arith in z)
+    ∙ own_word d e (number d.geometry x) oneth low high
+
+told_same : (d e : View) → d.number ≡ 1 → (t : ℕ) → t < take_words d.geometry
+    → (get_or (told d e).seen (number d.geometry (Take t)) 0 ≡ seen d (Take t)) × (get_or (told d e).seen (number d.geometry (Return t)) 0 ≡ seen d (Return t))
+told_same d e oneth t there =
+    (own_seen d e (Take t) oneth there (omega arith) (omega arith), own_seen d e (Return t) oneth there (omega arith) (omega arith))
+
+told_size : (d e : View) (n : ℕ) (ls : List Lane) → AreLanes d n ls → length (told d e).seen ≡ length d.seen
+told_size d e n ls lanes = length-map-range_with_len (told_word d e) 0 (word_count d.geometry) ∙ sym lanes.words
+
+pub lanes_told : (d e : View) (n : ℕ) (ls : List Lane) → d.number ≡ 1 → AreLanes d n ls → AreLanes (told d e) n ls
+lanes_told d e n ls oneth lanes = lanes_seeing d (told d e).seen d.looks d.made d.recv.watchers n ls (told_size d e n ls lanes) (told_same d e oneth) lanes
+
+pub lanes_join : (d e : View) (n : ℕ) (ls : List Lane) → d.number ≡ 1 → AreLanes d n ls → AreLanes (with_watcher_back d e) n ls
+lanes_join d e n ls oneth lanes = lanes_seeing d (told d e).seen d.looks d.made (d.recv.watchers - 1) n ls (told_size d e n ls lanes) (told_same d e oneth) lanes

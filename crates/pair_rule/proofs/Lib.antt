@@ -21,3 +21,5 @@ pub mod LanesStay
 pub mod MarkSeats
 pub mod Starting
 pub mod LanesKept
+pub mod RecvCalls
+pub mod TakeCalls

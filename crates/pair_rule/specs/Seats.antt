@@ -1,4 +1,5 @@
 -- A pair and its seats, as callers see them.
+use Rattle.part_geometry.specs.declared.TheConstants.{LAST_ROUND}
 use Rattle.std.specs.Prelude.{◌≡◌, ℕ, ◌+◌, ◌-◌, ◌*◌, ◌/◌, ◌%◌, ◌<◌, ◌≤◌, Bool, true, false, List, [], ◌∷◌, length, map, Option, Some, None}
 use mathlib.Core.Option.{some}
 use lib.ListN.{get_elem?}
@@ -8,7 +9,7 @@ use Rattle.part_geometry.specs.Cells.{cells, recv_of}
 use Rattle.part_tables.specs.Parts.{first_received}
 use Rattle.pair_core.specs.Names.{Take, Return, take_words}
 use Rattle.pair_core.specs.Reading.{part_bit}
-use Rattle.pair_core.specs.Moves.{IsRecvActive, last_round_number}
+use Rattle.pair_core.specs.Moves.{IsRecvActive}
 use Rattle.pair_core.specs.State.{word_count}
 use Rattle.slot_rows.specs.declared.lane.Lane.{Lane}
 use Rattle.slot_rows.specs.Lanes.{wide}
@@ -76,7 +77,7 @@ pub record IsLane (d : View) (q : ℕ) (l : Lane) : Type 0 where
 -- n: how many slots are out with the seat. The take words are stored after all return words.
 pub record AreLanes (d : View) (n : ℕ) (ls : List Lane) : Type 0 where
   pub words : length d.seen ≡ word_count d.geometry
-  pub round : d.recv.round ≤ last_round_number
+  pub round : d.recv.round ≤ LAST_ROUND
   pub order : 1 ≤ d.recv.takes → d.recv.returns ≡ take_words d.geometry
   pub parts : length ls ≡ d.geometry.recv_parts
   pub total : n ≡ wide ls

@@ -1,6 +1,7 @@
 //! The steps of the receive side that move no slot.
 
 ghost use Rattle.std.specs.Prelude.{◌≡◌, ◌^◌, ◌<◌};
+ghost use Rattle.part_geometry.specs.Shape.{IsShape};
 ghost use Rattle.pair_core.specs.Moves.{StoreReturn, StoreTake, StoreRelease};
 ghost use Rattle.pair_rule.specs.Views.{stored_return, stored_take, released};
 ghost use Rattle.pair_rule.specs.Seats.{IsOf};
@@ -38,6 +39,7 @@ impl<C: Content> Pair<C> {
         requires allowed { MayMake seat.old.me.0 (StoreReturn round word) }
         ensures seat { (seat.new.table_id ≡ seat.old.table_id) × (seat.new.id ≡ seat.old.id) }
         ensures step { seat.new.me ≡ (stored_return round word seat.old.me.0, seat.old.me.1) }
+        ensures shape { IsShape self.now.key.geometry }
     {
         let number = return_word(&self.tables, word as usize);
         self.table

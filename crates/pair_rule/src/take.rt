@@ -42,6 +42,7 @@ pub(crate) fn lay_lanes(alloc: Global, tables: &Tables) -> Result<Vec<Lane>, All
     ensures { IfOk result (λ lanes. lanes.items ≡ first_lanes tables.now) }
 {
     let parts = tables.geometry().recv_parts();
+    let _cells = tables.cells();
     let mut lanes = Vec::with_capacity(alloc, parts as usize)?;
     for q in 0..parts {
         let (first, after) = tables.received(q as usize);
@@ -104,14 +105,14 @@ impl<C: Content> Pair<C> {
     {
         let mask = mask(q);
         let at = q as usize;
-        let count = lanes[at].count as usize;
+        let (first, after) = self.tables.received(at);
         let word = take_word(&self.tables, at / 32);
         pass_to(seat, lanes, at);
         let found = self
             .table
             .shared
             .fetch_or::<TakesPart<X>>(seat, word, mask);
-        turn_times(seat, count);
+        turn_times(seat, after - first);
         pass_from(seat, lanes, at);
         found
     }
@@ -175,7 +176,7 @@ impl<C: Content> Pair<C> {
         lanes: &[Lane],
         place: u32,
         q: u32,
-        index: u32,
+        index: usize,
         new: Option<CellBuf>,
     ) -> Option<CellBuf>
         requires pair { IsOf seat.old.table_id seat.old.me.0 self.now }
@@ -189,13 +190,13 @@ impl<C: Content> Pair<C> {
         ensures slots { seat.new.me ≡ (seat.old.me.0, slice_set seat.old.me.1 (spot lanes.now q + index) (first_slot seat.old.me.0.geometry place q + index, new)) }
     {
         let (first, _after) = self.tables.received(q as usize);
-        let slot = place as usize * self.tables.cells() + first + index as usize;
+        let slot = place as usize * self.tables.cells() + first + index;
         swap_in(
             &self.table.shared,
             seat,
             lanes,
             q as usize,
-            index as usize,
+            index,
             slot,
             new,
         )
@@ -214,8 +215,8 @@ impl<C: Content> Pair<C> {
         ensures size { (length shelf.new.bufs ≡ cells_of seat.old.me.0.geometry q) × (shelf.old.room ≤ shelf.new.room) }
         ensures bufs { row (first_slot seat.old.me.0.geometry place q) (map Some shelf.new.bufs) ≡ take (cells_of seat.old.me.0.geometry q) (drop (spot lanes.now q) seat.old.me.1) }
     {
-        let count = lanes[q as usize].count;
-        for index in 0..count {
+        let (first, after) = self.tables.received(q as usize);
+        for index in 0..after - first {
             let buf = self.swap_part(seat, lanes, place, q, index, None).unwrap();
             shelf.push(buf);
         }
@@ -233,9 +234,9 @@ impl<C: Content> Pair<C> {
         ensures slots { seat.new.me ≡ (seat.old.me.0, overlaid (spot lanes.now q) (first_slot seat.old.me.0.geometry place q) (map Some shelf.old.bufs) seat.old.me.1) }
         ensures shelf { (shelf.new.bufs ≡ []) × (shelf.new.room ≡ shelf.old.room) }
     {
-        let count = lanes[q as usize].count;
-        for index in (0..count).rev() {
+        while shelf.len() > 0 {
             let buf = shelf.pop();
+            let index = shelf.len();
             let old = self.swap_part(seat, lanes, place, q, index, Some(buf));
             let None = old else { unreachable!() };
         }
@@ -253,7 +254,7 @@ impl<C: Content> Pair<C> {
     {
         let q = self.tables.cell(cell as usize).recv;
         let (first, _after) = self.tables.received(q as usize);
-        let index = cell - first as u32;
+        let index = cell as usize - first;
         let old = self.swap_part(&mut seat.seat, &seat.lanes, place, q, index, None);
         old.unwrap()
     }
@@ -269,7 +270,7 @@ impl<C: Content> Pair<C> {
     {
         let q = self.tables.cell(cell as usize).recv;
         let (first, _after) = self.tables.received(q as usize);
-        let index = cell - first as u32;
+        let index = cell as usize - first;
         let old = self.swap_part(&mut seat.seat, &seat.lanes, place, q, index, Some(buf));
         let None = old else { unreachable!() };
     }

@@ -1,34 +1,14 @@
-use Rattle.std.proofs.Common.{rules, ◌≡◌, ℕ, List, length, sym, subst}
-use Rattle.slot_rows.specs.declared.lane.Lane.{Lane}
-use Rattle.atomic_table.specs.Table.{Me}
+use Rattle.std.proofs.Common.{rules, ◌≡◌, ◌<◌, ◌+◌, length, sym, subst, arith}
 use Rattle.std.specs.Prelude.{Option}
+use Rattle.atomic_table.specs.Table.{Me}
 use Rattle.pair_rule.specs.Buf.{Buf}
-use Rattle.pair_rule.specs.First.{with_watcher}
 use Rattle.pair_rule.specs.Seats.{AreLanes}
 use Rattle.pair_rule.specs.declared.view.View.{View}
 use Rattle.pair_rule.specs.declared.view.Standing.TheVariants.{Seated}
 use Rattle.pair_rule.proofs.Core.{laws}
 use Rattle.pair_rule.proofs.Splitting.{watcher_splits}
+use Rattle.pair_rule.proofs.LanesStay.{lanes_split}
 use Rattle.pair_rule.proofs.pair.Pair.split_watcher.Goals as goal
-
--- a lane reads nothing that a new watcher changes
-lanes_stay : (d : View) (n : ℕ) (ls : List Lane) → AreLanes d n ls → AreLanes (with_watcher d) n ls
-lanes_stay d n ls are = record {
-  words = are.words;
-  round = are.round;
-  order = are.order;
-  parts = are.parts;
-  total = are.total;
-  each = λ q l at. let k = are.each q l at in record {
-    first = k.first;
-    count = k.count;
-    taken = k.taken;
-    out = k.out;
-    home = k.home;
-    unreturned = k.unreturned;
-    untaken = k.untaken;
-  };
-}
 
 pub split_seat-requires : goal.split_seat-requires
 split_seat-requires g c =
@@ -37,7 +17,7 @@ split_seat-requires g c =
 
 pub invariant_of-from : goal.invariant_of-from
 invariant_of-from g c =
-    let from = c.from.inside in let i = c.from.invariant in let d = from.seat.me.0 in
+    let from = c.from.inside in let i = c.from.invariant in
     subst (λ (me : Me (Option Buf) View). (me.0.standing ≡ Seated) × (me.0.number ≡ 1) × AreLanes me.0 (length me.1) from.lanes.items
     × (length from.shelves.items ≡ me.0.geometry.recv_parts))
-    (sym c.split_seat.ensures.2) (i.0, i.1, lanes_stay d (length from.seat.me.1) from.lanes.items i.2, i.3)
+    (sym c.split_seat.ensures.2) (i.0, i.1, lanes_split from.seat.me.0 (length from.seat.me.1) from.lanes.items i.2, i.3)
