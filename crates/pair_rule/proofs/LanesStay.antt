@@ -1,6 +1,6 @@
 -- What the receive seat has seen of its own words is as it was after a look, after it is told something, and after it has made a watcher
 -- or taken one back; and so its lanes are.
-use Rattle.std.proofs.Common.{◌≡◌, ◌≢◌, ℕ, ◌+◌, ◌-◌, ◌*◌, ◌/◌, ◌%◌, ◌<◌, Bool, true, false, ◌==◌, ◌&&◌, nat_lt, List, map, length, get_or, refl, sym, ap, ◌∙◌, subst, arith, length-set}
+use Rattle.std.proofs.Common.{◌≡◌, ◌≢◌, ℕ, ◌+◌, ◌-◌, ◌*◌, ◌/◌, ◌%◌, ◌<◌, Bool, true, false, ◌==◌, ◌&&◌, nat_lt, List, [], ◌∷◌, suc, map, length, get_or, refl, sym, ap, ◌∙◌, subst, arith, length-set}
 use Rattle.std.specs.Prelude.{if◌then◌else◌}
 use Rattle.std.specs.List.{range_with_len}
 use Rattle.std.proofs.lemmas.Bool.{eq-eqb, lt-ltb}
@@ -12,7 +12,11 @@ use Rattle.pair_core.specs.Names.{Name, Claim, Take, Return, Piece, Fits, number
 use Rattle.pair_core.specs.State.{word_count}
 use Rattle.pair_core.proofs.Facts.{number_one, number_lt}
 use Rattle.slot_rows.specs.declared.lane.Lane.{Lane}
+use Rattle.slot_rows.specs.Lanes.{wide, width}
 use Rattle.slot_rows.proofs.Lists.{at_split}
+use mathlib.Core.Option.{some}
+use lib.ListN.{get_elem?}
+use Rattle.pair_core.specs.Moves.{IsRecvIdle}
 use Rattle.pair_rule.specs.First.{with_watcher, with_watcher_back}
 use Rattle.pair_rule.specs.Views.{seen, saw, told, told_word, is_own}
 use Rattle.pair_rule.specs.Seats.{AreLanes, flag}
@@ -99,3 +103,18 @@ lanes_told d e n ls oneth lanes = lanes_seeing d (told d e).seen d.looks d.made 
 
 pub lanes_join : (d e : View) (n : ℕ) (ls : List Lane) → d.number ≡ 1 → AreLanes d n ls → AreLanes (with_watcher_back d e) n ls
 lanes_join d e n ls oneth lanes = lanes_seeing d (told d e).seen d.looks d.made (d.recv.watchers - 1) n ls (told_size d e n ls lanes) (told_same d e oneth) lanes
+
+-- where no lane is out none of their slots is
+wide_none : (ls : List Lane) → ((q : ℕ) (l : Lane) → get_elem? ls q ≡ some l → l.out ≡ false) → wide ls ≡ 0
+wide_none [] each = refl
+wide_none (l ∷ ls) each =
+    let here : width l ≡ 0 = ap (λ (b : Bool). let n : ℕ = if b then l.count else 0 in n) (each 0 l refl) in
+    let rest = wide_none ls (λ q. each (suc q)) in omega (arith, here, rest)
+
+-- an idle receive side has no slot out
+pub none_out : {X : Type 0} (d : View) (xs : List X) (ls : List Lane) → AreLanes d (length xs) ls → IsRecvIdle d.recv → xs ≡ []
+none_out d [] ls lanes idle = refl
+none_out d (x ∷ xs) ls lanes idle =
+    let total = lanes.total in
+    let none = wide_none ls (λ q l at. (lanes.each q l at).home (λ active. let a = active.1 in absurd (omega (arith, idle)))) in
+    absurd (omega (arith, none))

@@ -3,6 +3,7 @@ use Rattle.part_geometry.specs.declared.TheConstants.{LAST_ROUND}
 use Rattle.std.specs.Prelude.{◌≡◌, ℕ, ◌+◌, ◌-◌, ◌*◌, ◌/◌, ◌%◌, ◌<◌, ◌≤◌, Bool, true, false, List, [], ◌∷◌, length, map, Option, Some, None}
 use mathlib.Core.Option.{some}
 use lib.ListN.{get_elem?}
+use Rattle.std.specs.List.{range_with_len}
 use Rattle.atomic_table.specs.Seated.{TableId}
 use Rattle.part_geometry.specs.Shape.{Shape}
 use Rattle.part_geometry.specs.Cells.{cells, recv_of}
@@ -13,7 +14,9 @@ use Rattle.pair_core.specs.Moves.{IsRecvActive}
 use Rattle.pair_core.specs.State.{word_count}
 use Rattle.slot_rows.specs.declared.lane.Lane.{Lane}
 use Rattle.slot_rows.specs.Lanes.{wide}
+use Rattle.pair_core.specs.declared.view.Mark.{Mark}
 use Rattle.pair_rule.specs.Buf.{Buf}
+use Rattle.pair_rule.specs.Rule.{bytes_of}
 use Rattle.pair_rule.specs.Views.{seen}
 use Rattle.pair_rule.specs.declared.view.View.{View}
 use Rattle.pair_rule.specs.declared.rule.Key.{Key}
@@ -86,3 +89,20 @@ pub record AreLanes (d : View) (n : ℕ) (ls : List Lane) : Type 0 where
 -- a seat or a note belongs to a pair
 abbrev pub IsOf : {T : Type 0} → TableId → View → PairOf T → Type 0
 IsOf table d pair = (table ≡ pair.table) × (d.geometry ≡ pair.key.geometry)
+
+-- the bytes of each round up to one, and in it of each send partition, in order
+abbrev pub rounds_of : Shape → ℕ → List (Mark (List ℕ)) → List (List (List ℕ))
+rounds_of g n marks = map (λ k. map (bytes_of marks k) (range_with_len 0 g.send_parts)) (range_with_len 1 n)
+
+-- a pair that was closed
+pub record ClosedOf : Type 0 where
+  pub geometry : Shape
+  pub sent : ℕ
+  pub received : ℕ
+  pub pieces_out : ℕ
+  pub rounds : List (List (List ℕ))
+
+-- what it keeps is the view that both sides had
+abbrev pub rounds_in : List View → List (List (List ℕ))
+rounds_in [] = []
+rounds_in (d ∷ ds) = rounds_of d.geometry d.send.round d.marks

@@ -47,4 +47,26 @@ impl<C: Content> Pair<C> {
     {
         self.tables.geometry()
     }
+
+    /// The tables of its geometry.
+    pub fn tables(&self) -> &Tables
+        ensures { result.now ≡ self.now.key.geometry }
+    {
+        &self.tables
+    }
+
+    /// Its parts.
+    pub(crate) fn into_parts(self) -> (Top<C>, Tables)
+        ensures parts { (result.0.shared.table_id ≡ self.table) × (result.0.shared.key ≡ self.key) × (result.1 ≡ self.key.geometry) }
+        ensures limits { IsShape self.key.geometry }
+    {
+        let Pair { table, tables } = self;
+        (table, tables)
+    }
+}
+
+impl<C: Content> Drop for Pair<C> {
+    fn drop(self) {
+        drop(self.into_parts());
+    }
 }

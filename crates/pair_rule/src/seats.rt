@@ -223,13 +223,14 @@ impl<C: Content> WatchSeat<C> {
 }
 
 impl<C: Content> RecvSeat<C> {
-    ghost use Rattle.pair_rule.specs.Seats.{AreLanes};
+    ghost use Rattle.pair_core.specs.Moves.{IsRecvIdle};
     ghost use Rattle.pair_rule.specs.declared.view.Standing.TheVariants.{Seated};
 
     /// The seat of the table alone.
     pub(crate) fn into_place(self) -> Place
         ensures place { (result.table_id ≡ self.table) × (result.me ≡ (self.view, self.slots)) }
-        ensures live { (self.view.standing ≡ Seated) × (self.view.number ≡ 1) × AreLanes self.view (length self.slots) self.lanes }
+        ensures live { (self.view.standing ≡ Seated) × (self.view.number ≡ 1) }
+        ensures idle { IsRecvIdle self.view.recv → self.slots ≡ [] }
     {
         let RecvSeat {
             seat,

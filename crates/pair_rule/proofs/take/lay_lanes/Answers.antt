@@ -1,4 +1,5 @@
-use Rattle.std.proofs.Common.{ℕ, ◌-◌, true, false, ap, arith}
+use Rattle.std.proofs.Common.{◌≡◌, ℕ, ◌-◌, ◌<◌, true, false, map, ap, ◌∙◌, subst, arith}
+use Rattle.part_geometry.specs.Shape.{IsShape}
 use Rattle.part_geometry.proofs.ReaderFacts.{cells-few}
 use Rattle.slot_rows.specs.declared.lane.Lane.{Lane}
 use Rattle.pair_core.proofs.StateTables.{table_more}

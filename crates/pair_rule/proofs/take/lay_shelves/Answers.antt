@@ -1,7 +1,7 @@
-use Rattle.std.proofs.Common.{◌≡◌, ℕ, ◌-◌, Some, ap, ◌∙◌}
+use Rattle.std.proofs.Common.{◌≡◌, ℕ, ◌-◌, List, [], Option, Some, map, ap, ◌∙◌}
 use Rattle.pair_core.proofs.StateTables.{table_more}
 use Rattle.pair_rule.specs.Parts.{first_shelf}
-use Rattle.pair_rule.specs.Seats.{cells_of}
+use Rattle.pair_rule.specs.Seats.{Room, cells_of}
 use Rattle.pair_rule.proofs.take.lay_shelves.Goals as goal
 
 pub loop-q-preserved : goal.loop-q-preserved
