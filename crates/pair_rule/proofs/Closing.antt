@@ -6,7 +6,7 @@ use Rattle.std.specs.List.{range_with_len}
 use Rattle.std.proofs.lemmas.Bool.{eqb-true}
 use Rattle.std.proofs.lemmas.Nat.{div_below}
 use Rattle.std.proofs.Math.Nat.{mul-le-mul_right}
-use mathlib.Core.Option.{some, some-injective}
+use mathlib.Core.Option.{some, some-injective, some-ne-none}
 use lib.ListN.{get_elem?}
 use Rattle.atomic_table.specs.Table.{State, Joins, Splits}
 use Rattle.atomic_table.proofs.Lists.{at_set, set_else}
@@ -65,6 +65,11 @@ bytes_in k p (m ∷ ms) h = ⊎_elim
 marks_bytes : (bytes : ℕ → ℕ → List ℕ) (k p : ℕ) (ms : List (Mark (List ℕ))) → 1 ≤ times k p ms → ((m : Mark (List ℕ)) → Contains ms m → m.with ≡ bytes m.round m.partition)
     → bytes_of ms k p ≡ bytes k p
 marks_bytes bytes k p ms h all = let m = bytes_in k p ms h in m.4 ∙ (all m.0 m.1 ∙ (λ i. bytes (m.2 i) (m.3 i)))
+
+pub index_at : (l : List ℕ) (i x : ℕ) → get_elem? l i ≡ some x → get_or l i 0 ≡ x
+index_at [] i x e = absurd (some-ne-none x (sym e))
+index_at (y ∷ ys) zero x e = some-injective y x e
+index_at (y ∷ ys) (suc i) x e = index_at ys i x e
 
 -- where none of a sort is left
 none_left : (sort : ℕ → Type 0) (life : ℕ → Life) (count n : ℕ) → Counts sort life count → count ≡ 0 → sort n → life n ≢ Live

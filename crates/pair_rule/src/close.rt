@@ -1,12 +1,14 @@
 //! How a pair ends.
 
 ghost use Rattle.std.specs.Prelude.{◌≡◌, ◌*◌, ◌<◌, ◌≤◌, ℕ};
+ghost use Rattle.std.specs.Prelude.{IsFull};
 ghost use Rattle.part_geometry.specs.Pieces.{pieces};
 ghost use Rattle.pair_core.specs.Moves.{IsSendIdle, IsRecvIdle};
 ghost use Rattle.pair_rule.specs.First.{spent, closed};
 ghost use Rattle.pair_rule.specs.Rule.{IsWhole, MayMark, bytes_of};
 ghost use Rattle.pair_rule.specs.Seats.{IsOf, rounds_of};
 
+use crate::buf::CellBuf;
 use crate::content::Content;
 use crate::pair::Pair;
 use crate::seats::{RecvSeat, SendSeat};
@@ -15,6 +17,7 @@ use crate::words::release_word;
 use atomic_table::{Badge, Join, Split};
 use gate_word::round_of;
 use part_geometry::Geometry;
+use std::alloc::Global;
 use std::marker::Model;
 
 /// The receive side is joined into the send side.
@@ -84,6 +87,18 @@ impl Closed {
     }
 }
 
+/// Gives the words and the slots of a closed table back, and the buffers in them.
+fn release(mut closed: atomic_table::Closed<Option<CellBuf>, Global>)
+    requires { IsFull closed.slots }
+{
+    let mut slot = 0;
+    while slot < closed.slot_count() {
+        drop(closed.take(slot));
+        slot += 1;
+    }
+    closed.free();
+}
+
 impl<C: Content> Pair<C> {
     /// Closes a pair whose sides are idle, and whose markers and watchers were all joined. Each partition of each round
     /// sent was marked once, with bytes that may be, and each receive partition of each round received was taken once, with
@@ -109,20 +124,18 @@ impl<C: Content> Pair<C> {
             .shared
             .join_seat::<TakesInReceiver>(&mut place, recv.into_place());
         let kept = table.shared.split_seat::<Keeps>(&mut place);
-        let mut closed = table.close_with(place);
+        let closed = table.close_with(place);
         let sent = round_of(closed.word(0));
         let received = round_of(closed.word(release_word(&tables)));
-        let count = closed.slot_count();
-        for slot in 0..count {
-            drop(closed.take(slot));
-        }
-        closed.free();
+        let geometry = tables.geometry();
+        let pieces_out = u64::from(sent) * tables.pieces() as u64;
+        release(closed);
         Closed {
             record: kept.into_badge(),
-            geometry: tables.geometry(),
+            geometry,
             sent,
             received,
-            pieces_out: u64::from(sent) * tables.pieces() as u64,
+            pieces_out,
         }
     }
 }

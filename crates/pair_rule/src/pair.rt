@@ -2,6 +2,7 @@
 
 ghost use Rattle.std.specs.Prelude.{◌≡◌};
 ghost use Rattle.part_geometry.specs.Shape.{IsShape};
+ghost use Rattle.pair_core.specs.State.{word_count};
 
 use crate::buf::CellBuf;
 use crate::content::Content;
@@ -58,7 +59,7 @@ impl<C: Content> Pair<C> {
     /// Its parts.
     pub(crate) fn into_parts(self) -> (Top<C>, Tables)
         ensures parts { (result.0.shared.table_id ≡ self.table) × (result.0.shared.key ≡ self.key) × (result.1 ≡ self.key.geometry) }
-        ensures limits { IsShape self.key.geometry }
+        ensures limits { IsShape self.key.geometry × (self.table.words ≡ word_count self.key.geometry) }
     {
         let Pair { table, tables } = self;
         (table, tables)
