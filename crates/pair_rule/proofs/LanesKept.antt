@@ -6,7 +6,9 @@ use mathlib.Core.Option.{some, some-injective, some-ne-none}
 use native.Mathlib.Decide.{ℕ_discrete}
 use lib.ListN.{get_elem?}
 use Rattle.part_geometry.specs.Shape.{Shape, IsShape}
+use Rattle.part_geometry.specs.Cells.{cells, recv_of}
 use Rattle.part_tables.specs.Parts.{first_received}
+use Rattle.part_tables.proofs.Facts.{in_received}
 use Rattle.pair_core.specs.Words.{bit, empty}
 use Rattle.pair_core.specs.Names.{Name, Release, Take, Return, Fits, number, take_words}
 use Rattle.pair_core.specs.Reading.{part_bit}
@@ -19,6 +21,7 @@ use Rattle.slot_rows.proofs.Lists.{at_split}
 use Rattle.slot_rows.proofs.Lanes.{flagged_at, flagged_length, wide_out, wide_home, home_width, spot}
 use Rattle.pair_rule.specs.Views.{seen, saw, stored_return, stored_take, released, taken, given_back}
 use Rattle.pair_rule.specs.Seats.{IsLane, AreLanes, flag, cells_of}
+use Rattle.pair_rule.specs.Rule.{slot_number}
 use Rattle.pair_rule.specs.Steps.{MayMake}
 use Rattle.pair_rule.specs.Parts.{untaken, fresh_lanes}
 use Rattle.pair_rule.specs.declared.view.View.{View}
@@ -390,3 +393,8 @@ flags_there d n q ls t o a f = part_there d n q ls f.lane a f.at
 -- lanes that were written back over a vector's
 pub written : (n : ℕ) (new old : List Lane) → length new ≡ length old → length old ≡ n → take n (new ++ drop (length new) old) ≡ new
 written n new old e f = take_at new (drop (length new) old) n (e ∙ f)
+
+-- where a cell is in its receive partition
+pub cell_facts : (g : Shape) → IsShape g → (c q e first after : ℕ) → c < cells g → recv_of g c ≡ q → first ≡ first_received g q → after ≡ first_received g (q + 1)
+    → (first ≤ c) × (c - first < after - first) × (slot_number g e first + (c - first) ≡ slot_number g e c)
+cell_facts g v c q e first after inside is a b = let h = (in_received g v q c inside).0 is in let low = h.0 in let high = h.1 in (omega arith, omega arith, omega arith)

@@ -2,7 +2,7 @@
 -- the seat's others, and come home in one.
 use Rattle.std.proofs.Common.{◌≡◌, inl, ℕ, ◌+◌, ◌*◌, ◌%◌, ◌/◌, ◌^◌, ◌<◌, List, [], ◌++◌, length, map, drop, get_or, set, bit_or, Option, Some, refl, sym, ap, ◌∙◌, subst, arith, length-append}
 use Rattle.std.proofs.lemmas.List.{length-map}
-use mathlib.Core.Option.{some, none}
+use mathlib.Core.Option.{some, none, some-injective}
 use mathlib.Core.Option as maybe
 use lib.ListN.{get_elem?}
 use Rattle.atomic_table.specs.Table.{Allows, Step, step, homes_after, carried_after}
@@ -120,3 +120,7 @@ pub taken_length : (ok : ℕ → ℕ → ℕ → Type 0) (d : View) (l : List (�
 taken_length ok d l q found seat' t =
     let R : List (ℕ × Option Buf) = row (first_slot d.geometry (place_of d) q) (map Some t.1) in
     ap (λ (m : Seat). length m.1) t.4 ∙ (length-append R l ∙ ap (λ (z : ℕ). z + length l) (taken_row ok d q t.1 t.2 (first_slot d.geometry (place_of d) q) t.3))
+
+-- two readings of one slot
+pub same_value : (k : ℕ) (a b : Option Buf) → some (k, a) ≡ some (k, b) → a ≡ b
+same_value k a b e = ap (λ (z : ℕ × Option Buf). z.1) (some-injective (k, a) (k, b) e)

@@ -212,6 +212,7 @@ impl<C: Content> Pair<C> {
         requires room { (shelf.old.bufs ≡ []) × (cells_of seat.old.me.0.geometry q ≤ shelf.old.room) }
         ensures seat { (seat.new.table_id ≡ seat.old.table_id) × (seat.new.id ≡ seat.old.id) }
         ensures slots { seat.new.me ≡ (seat.old.me.0, overlaid (spot lanes.now q) (first_slot seat.old.me.0.geometry place q) (replicate (cells_of seat.old.me.0.geometry q) None) seat.old.me.1) }
+        ensures long { length seat.new.me.1 ≡ length seat.old.me.1 }
         ensures size { (length shelf.new.bufs ≡ cells_of seat.old.me.0.geometry q) × (shelf.old.room ≤ shelf.new.room) }
         ensures bufs { row (first_slot seat.old.me.0.geometry place q) (map Some shelf.new.bufs) ≡ take (cells_of seat.old.me.0.geometry q) (drop (spot lanes.now q) seat.old.me.1) }
     {
@@ -232,6 +233,7 @@ impl<C: Content> Pair<C> {
         requires held { take (cells_of seat.old.me.0.geometry q) (drop (spot lanes.now q) seat.old.me.1) ≡ row (first_slot seat.old.me.0.geometry place q) (replicate (cells_of seat.old.me.0.geometry q) None) }
         ensures seat { (seat.new.table_id ≡ seat.old.table_id) × (seat.new.id ≡ seat.old.id) }
         ensures slots { seat.new.me ≡ (seat.old.me.0, overlaid (spot lanes.now q) (first_slot seat.old.me.0.geometry place q) (map Some shelf.old.bufs) seat.old.me.1) }
+        ensures long { length seat.new.me.1 ≡ length seat.old.me.1 }
         ensures shelf { (shelf.new.bufs ≡ []) × (shelf.new.room ≡ shelf.old.room) }
     {
         while shelf.len() > 0 {
