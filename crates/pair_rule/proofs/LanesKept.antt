@@ -23,7 +23,7 @@ use Rattle.pair_rule.specs.Views.{seen, saw, stored_return, stored_take, release
 use Rattle.pair_rule.specs.Seats.{IsLane, AreLanes, flag, cells_of}
 use Rattle.pair_rule.specs.Rule.{slot_number}
 use Rattle.pair_rule.specs.Steps.{MayMake}
-use Rattle.pair_rule.specs.Parts.{untaken, fresh_lanes}
+use Rattle.pair_rule.specs.Parts.{untaken, fresh_lanes, first_slot, cell_spot}
 use Rattle.pair_rule.specs.declared.view.View.{View}
 
 -- the word of a name after the seat saw w at the name x
@@ -398,3 +398,19 @@ written n new old e f = take_at new (drop (length new) old) n (e ∙ f)
 pub cell_facts : (g : Shape) → IsShape g → (c q e first after : ℕ) → c < cells g → recv_of g c ≡ q → first ≡ first_received g q → after ≡ first_received g (q + 1)
     → (first ≤ c) × (c - first < after - first) × (slot_number g e first + (c - first) ≡ slot_number g e c)
 cell_facts g v c q e first after inside is a b = let h = (in_received g v q c inside).0 is in let low = h.0 in let high = h.1 in (omega arith, omega arith, omega arith)
+
+-- the same by the seat's geometry g, which the tables t have, and the lanes as a call reads them
+pub cell_spots : (t g : Shape) → IsShape t → g ≡ t → (c q e first after : ℕ) (ls ls' : List Lane) → ls' ≡ ls → c < cells t → q ≡ recv_of t c → first ≡ first_received t q → after ≡ first_received t (q + 1)
+    → (first ≤ c) × (c - first < cells_of g q) × (place ls' q + (c - first) ≡ cell_spot g ls c) × (first_slot g e q + (c - first) ≡ slot_number g e c)
+cell_spots t g v geo c q e first after ls ls' same inside is a b =
+    let f = cell_facts t v c q e first after inside (sym is) a b in
+    let there : q ≡ recv_of g c = is ∙ ap (λ (z : Shape). recv_of z c) (sym geo) in
+    let start : first ≡ first_received g (recv_of g c) = a ∙ (λ i. first_received (sym geo i) (there i)) in
+    let first_is : first ≡ first_received g q = a ∙ ap (λ (z : Shape). first_received z q) (sym geo) in
+    let room : after - first ≡ cells_of g q = (λ i. b i - a i) ∙ ap (λ (z : Shape). cells_of z q) (sym geo) in
+    (
+      f.0,
+      subst (λ (z : ℕ). c - first < z) room f.1,
+      (λ i. place (same i) (there i) + (c - start i)),
+      ap (λ (z : ℕ). slot_number g e z + (c - first)) (sym first_is) ∙ (ap (λ (z : Shape). slot_number z e first + (c - first)) geo ∙ (f.2 ∙ ap (λ (z : Shape). slot_number z e c) (sym geo))),
+    )

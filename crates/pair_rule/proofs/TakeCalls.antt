@@ -122,5 +122,5 @@ taken_length ok d l q found seat' t =
     ap (λ (m : Seat). length m.1) t.4 ∙ (length-append R l ∙ ap (λ (z : ℕ). z + length l) (taken_row ok d q t.1 t.2 (first_slot d.geometry (place_of d) q) t.3))
 
 -- two readings of one slot
-pub same_value : (k : ℕ) (a b : Option Buf) → some (k, a) ≡ some (k, b) → a ≡ b
-same_value k a b e = ap (λ (z : ℕ × Option Buf). z.1) (some-injective (k, a) (k, b) e)
+pub same_value : (k : ℕ) (a b : Option Buf) → ◌≡◌ {A = maybe.Option (ℕ × Option Buf)} (some (k, a)) (some (k, b)) → a ≡ b
+same_value k a b e = let x : ℕ × Option Buf = (k, a) in let y : ℕ × Option Buf = (k, b) in ap (λ (z : ℕ × Option Buf). z.1) (some-injective x y e)

@@ -42,3 +42,16 @@ loop-shelf-preserved g c =
       room = c.pop-buf.ensures.1 ∙ v.room;
       bufs = s.0;
     }
+
+pub unreachable-requires : goal.unreachable-requires
+unreachable-requires g c =
+    let me = c.args.seat.now.me in let q : ℕ = c.args.q in let e : ℕ = c.args.place in let p : ℕ = place c.args.lanes.now q in let f : ℕ = first_slot me.0.geometry e q in
+    let n : ℕ = cells_of me.0.geometry q in let all = c.args.shelf.now.bufs in let items = c.loop-shelf.shelf.bufs in let new = c.pop-buf.new.self.bufs in let k : ℕ = length new in
+    let v = c.loop-shelf.invariant in
+    let K : length items ≡ k + 1 = ap length c.pop-buf.ensures.0 ∙ length-append new (c.pop-buf.result ∷ []) in
+    let small : k < n = let a = v.count in let b = c.requires.full in omega arith in
+    let over : List (ℕ × Option Buf) = overlaid (p + length items) (f + length items) (map Some (drop (length items) all)) me.1 in
+    let at = put_at p f n me.1 c.requires.held k (length items) (map Some (drop (length items) all)) small K in
+    let found : get_elem? over (p + k) ≡ some (f + k, c.swap_part-old.result) =
+      subst (λ (z : Seat × ℕ). get_elem? z.0.1 (p + z.1) ≡ some (first_slot z.0.0.geometry e q + z.1, c.swap_part-old.result)) (λ i. (v.slots i, c.len-index.ensures i)) c.swap_part-old.ensures.found in
+    c.in_default.not-None (same_value (f + k) c.swap_part-old.result None (sym found ∙ at))
