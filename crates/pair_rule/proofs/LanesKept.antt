@@ -152,7 +152,7 @@ untaken_length zero (suc n) (x ∷ xs) = ap suc (untaken_length zero n xs)
 untaken_length (suc k) n (x ∷ xs) = ap suc (untaken_length k n xs)
 
 -- where no lane is out, no slot is
-none_wide : (ls : List Lane) → ((q : ℕ) (l : Lane) → get_elem? ls q ≡ some l → l.out ≡ false) → wide ls ≡ 0
+pub none_wide : (ls : List Lane) → ((q : ℕ) (l : Lane) → get_elem? ls q ≡ some l → l.out ≡ false) → wide ls ≡ 0
 none_wide [] h = refl
 none_wide (l ∷ ls) h = let a = home_width l (h 0 l refl) in let b = none_wide ls (λ q x e. h (suc q) x e) in omega arith
 

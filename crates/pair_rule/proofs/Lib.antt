@@ -13,3 +13,4 @@ pub mod Returning
 pub mod LanesKept
 pub mod RecvCalls
 pub mod TakeCalls
+pub mod LanesFirst
