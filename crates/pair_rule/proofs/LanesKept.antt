@@ -94,7 +94,7 @@ return_inactive : (d : View) (k t n : ℕ) (ls : List Lane) → IsShape d.geomet
 return_inactive d k t n ls v h a act = ⊎_elim
     (λ (z : (t ≡ 0) × IsRecvIdle d.recv × (k ≡ d.recv.round + 1)). let e = z.1 in let f = act.1 in absurd (omega arith))
     (λ (z : (1 ≤ t) × (t ≡ d.recv.returns) × (k ≡ d.recv.round)).
-      let some = some_word d.geometry v in let e = act.0 in let o = a.order (omega arith) in let low = h.1 in let is = z.1 in absurd (omega arith))
+    let some = some_word d.geometry v in let e = act.0 in let o = a.order (omega arith) in let low = h.1 in let is = z.1 in absurd (omega arith))
     h.3
 
 pub return_lanes : (d : View) (k t n : ℕ) (ls : List Lane) → IsShape d.geometry → MayMake d (StoreReturn k t) → AreLanes d n ls → AreLanes (stored_return k t d) n ls
@@ -114,13 +114,13 @@ return_lanes d k t n ls v h a =
         home = λ is. e.home not;
         unreturned = λ low below. dite (ℕ_discrete (q / 32) t)
             (λ same. ap (λ (z : ℕ). bit (seen (saw (Return t) (empty k) d) (Return z)) (q % 32)) same
-              ∙ (ap (λ (z : ℕ). bit z (q % 32)) (seen_here d (Return t) (empty k) h.1 a.words) ∙ empty_bit k (q % 32) (omega arith)))
+            ∙ (ap (λ (z : ℕ). bit z (q % 32)) (seen_here d (Return t) (empty k) h.1 a.words) ∙ empty_bit k (q % 32) (omega arith)))
             (λ other. ap (λ (z : ℕ). bit z (q % 32)) (seen_else d (Return t) (Return (q / 32)) (empty k) h.1 there (λ z. other (return_one (q / 32) t z)))
-              ∙ ⊎_elim
-                (λ (z : (t ≡ 0) × IsRecvIdle d.recv × (k ≡ d.recv.round + 1)). let zero' = z.0 in absurd (omega arith))
-                (λ (z : (1 ≤ t) × (t ≡ d.recv.returns) × (k ≡ d.recv.round)).
-                  let is = z.1 in let few : d.recv.takes < take_words g = before d.recv.takes d.recv.returns (take_words g) t a.order is h.1 in e.unreturned few (omega arith))
-                h.3);
+            ∙ ⊎_elim
+            (λ (z : (t ≡ 0) × IsRecvIdle d.recv × (k ≡ d.recv.round + 1)). let zero' = z.0 in absurd (omega arith))
+            (λ (z : (1 ≤ t) × (t ≡ d.recv.returns) × (k ≡ d.recv.round)).
+            let is = z.1 in let few : d.recv.takes < take_words g = before d.recv.takes d.recv.returns (take_words g) t a.order is h.1 in e.unreturned few (omega arith))
+            h.3);
         untaken = λ low below. absurd (omega arith);
       };
     }
@@ -166,8 +166,8 @@ take_lanes d k t n ls h a =
     let Inside : ℕ → Lane → Type 0 = λ q l. (32 * t ≤ q) × (q < 32 * t + 32) × ((y : Lane) × (get_elem? ls q ≡ some y) × (record y { taken = false; out = false } ≡ l)) in
     let Outside : ℕ → Lane → Type 0 = λ q l. ¬ ((32 * t ≤ q) × (q < 32 * t + 32)) × (get_elem? ls q ≡ some l) in
     let home : (q : ℕ) (l : Lane) → get_elem? (fresh_lanes t ls) q ≡ some l → l.out ≡ false = λ q l at. ⊎_elim
-        (λ (z : Inside q l). ap (λ (y : Lane). y.out) (sym z.2.2))
-        (λ (z : Outside q l). (a.each q l z.1).home not) (untaken_at (32 * t) 32 ls q l at) in
+    (λ (z : Inside q l). ap (λ (y : Lane). y.out) (sym z.2.2))
+    (λ (z : Outside q l). (a.each q l z.1).home not) (untaken_at (32 * t) 32 ls q l at) in
     record {
       words = length-set d.seen (number g x) w ∙ a.words;
       round = a.round;
@@ -176,38 +176,38 @@ take_lanes d k t n ls h a =
       total = a.total ∙ (none_wide ls (λ q l at. (a.each q l at).home not) ∙ sym (none_wide (fresh_lanes t ls) home));
       each = λ q l at. ⊎_elim
           (λ (z : Inside q l).
-            let y = z.2.0 in let there = z.2.1 in let eq = z.2.2 in let e = a.each q y there in let inside = word_there d n q ls y a there in
-            let here : q / 32 ≡ t = word_of_lane q t z.0 z.1 in
-            let back : part_bit (λ (u : ℕ). seen (saw x w d) (Return u)) q ≡ 0 =
-              ap (λ (u : ℕ). bit u (q % 32)) (seen_else d x (Return (q / 32)) w h.1 inside (return_take (q / 32) t)) ∙ e.unreturned few (omega arith) in
-            let no : flag l.taken ≡ 0 = ap (λ (v : Lane). flag v.taken) (sym eq) in let in' : flag l.out ≡ 0 = ap (λ (v : Lane). flag v.out) (sym eq) in
-            let unset : part_bit (λ (u : ℕ). seen (saw x w d) (Take u)) q ≡ 0 =
-              ap (λ (u : ℕ). bit (seen (saw x w d) (Take u)) (q % 32)) here
-              ∙ (ap (λ (u : ℕ). bit u (q % 32)) (seen_here d x w h.1 a.words) ∙ empty_bit d.recv.round (q % 32) (omega arith)) in
-            let made : IsLane (stored_take t d) q l = record {
-              first = ap (λ (v : Lane). v.first) (sym eq) ∙ e.first;
-              count = ap (λ (v : Lane). v.count) (sym eq) ∙ e.count;
-              taken = unset ∙ sym no;
-              out = λ act. omega arith;
-              home = λ idle. ap (λ (v : Lane). v.out) (sym eq);
-              unreturned = λ less below. back;
-              untaken = λ less below. ap (λ (v : Lane). v.taken) (sym eq);
-            } in made)
+          let y = z.2.0 in let there = z.2.1 in let eq = z.2.2 in let e = a.each q y there in let inside = word_there d n q ls y a there in
+          let here : q / 32 ≡ t = word_of_lane q t z.0 z.1 in
+          let back : part_bit (λ (u : ℕ). seen (saw x w d) (Return u)) q ≡ 0 =
+          ap (λ (u : ℕ). bit u (q % 32)) (seen_else d x (Return (q / 32)) w h.1 inside (return_take (q / 32) t)) ∙ e.unreturned few (omega arith) in
+          let no : flag l.taken ≡ 0 = ap (λ (v : Lane). flag v.taken) (sym eq) in let in' : flag l.out ≡ 0 = ap (λ (v : Lane). flag v.out) (sym eq) in
+          let unset : part_bit (λ (u : ℕ). seen (saw x w d) (Take u)) q ≡ 0 =
+          ap (λ (u : ℕ). bit (seen (saw x w d) (Take u)) (q % 32)) here
+          ∙ (ap (λ (u : ℕ). bit u (q % 32)) (seen_here d x w h.1 a.words) ∙ empty_bit d.recv.round (q % 32) (omega arith)) in
+          let made : IsLane (stored_take t d) q l = record {
+            first = ap (λ (v : Lane). v.first) (sym eq) ∙ e.first;
+            count = ap (λ (v : Lane). v.count) (sym eq) ∙ e.count;
+            taken = unset ∙ sym no;
+            out = λ act. omega arith;
+            home = λ idle. ap (λ (v : Lane). v.out) (sym eq);
+            unreturned = λ less below. back;
+            untaken = λ less below. ap (λ (v : Lane). v.taken) (sym eq);
+          } in made)
           (λ (z : Outside q l).
-            let e = a.each q l z.1 in let inside = word_there d n q ls l a z.1 in
-            let other : q / 32 ≢ t = λ same. z.0 (lane_of_word q t same) in
-            let seen_same : seen (saw x w d) (Take (q / 32)) ≡ seen d (Take (q / 32)) = seen_else d x (Take (q / 32)) w h.1 inside (λ s. other (take_one (q / 32) t s)) in
-            let seen_back : seen (saw x w d) (Return (q / 32)) ≡ seen d (Return (q / 32)) = seen_else d x (Return (q / 32)) w h.1 inside (return_take (q / 32) t) in
-            let back : part_bit (λ (u : ℕ). seen (saw x w d) (Return u)) q ≡ 0 = ap (λ (u : ℕ). bit u (q % 32)) seen_back ∙ e.unreturned few (omega arith) in
-            let made : IsLane (stored_take t d) q l = record {
-              first = e.first;
-              count = e.count;
-              taken = ap (λ (u : ℕ). bit u (q % 32)) seen_same ∙ e.taken;
-              out = λ act. let last = act.0 in let no = ap flag (e.untaken few (omega (arith, other))) in let in' = ap flag (e.home not) in omega arith;
-              home = λ idle. e.home not;
-              unreturned = λ less below. back;
-              untaken = λ less below. e.untaken few (omega (arith, other));
-            } in made)
+          let e = a.each q l z.1 in let inside = word_there d n q ls l a z.1 in
+          let other : q / 32 ≢ t = λ same. z.0 (lane_of_word q t same) in
+          let seen_same : seen (saw x w d) (Take (q / 32)) ≡ seen d (Take (q / 32)) = seen_else d x (Take (q / 32)) w h.1 inside (λ s. other (take_one (q / 32) t s)) in
+          let seen_back : seen (saw x w d) (Return (q / 32)) ≡ seen d (Return (q / 32)) = seen_else d x (Return (q / 32)) w h.1 inside (return_take (q / 32) t) in
+          let back : part_bit (λ (u : ℕ). seen (saw x w d) (Return u)) q ≡ 0 = ap (λ (u : ℕ). bit u (q % 32)) seen_back ∙ e.unreturned few (omega arith) in
+          let made : IsLane (stored_take t d) q l = record {
+            first = e.first;
+            count = e.count;
+            taken = ap (λ (u : ℕ). bit u (q % 32)) seen_same ∙ e.taken;
+            out = λ act. let last = act.0 in let no = ap flag (e.untaken few (omega (arith, other))) in let in' = ap flag (e.home not) in omega arith;
+            home = λ idle. e.home not;
+            unreturned = λ less below. back;
+            untaken = λ less below. e.untaken few (omega (arith, other));
+          } in made)
           (untaken_at (32 * t) 32 ls q l at);
     }
 
@@ -221,16 +221,16 @@ release_lanes d k n ls h a =
       parts = a.parts;
       total = a.total;
       each = λ q l at. let e = a.each q l at in let inside = part_there d n q ls l a at in let there = word_there d n q ls l a at in
-        let both = h.3 q inside in
-        let made : IsLane (released d) q l = record {
-          first = e.first;
-          count = e.count;
-          taken = ap (λ (z : ℕ). bit z (q % 32)) (seen_else d Release (Take (q / 32)) w tt there (take_release (q / 32))) ∙ e.taken;
-          out = λ act. let z = act.1 in absurd (omega arith);
-          home = λ idle. let o = e.out h.2 in let t = e.taken in let b0 = both.0 in let b1 = both.1 in flag_zero l.out (omega arith);
-          unreturned = λ less below. absurd (omega arith);
-          untaken = λ less below. absurd (omega arith);
-        } in made;
+          let both = h.3 q inside in
+          let made : IsLane (released d) q l = record {
+            first = e.first;
+            count = e.count;
+            taken = ap (λ (z : ℕ). bit z (q % 32)) (seen_else d Release (Take (q / 32)) w tt there (take_release (q / 32))) ∙ e.taken;
+            out = λ act. let z = act.1 in absurd (omega arith);
+            home = λ idle. let o = e.out h.2 in let t = e.taken in let b0 = both.0 in let b1 = both.1 in flag_zero l.out (omega arith);
+            unreturned = λ less below. absurd (omega arith);
+            untaken = λ less below. absurd (omega arith);
+          } in made;
     }
 
 -- ---- a take and a return of partition q
@@ -257,9 +257,9 @@ set_else d N p q v one fits there size is other =
     let w : ℕ = bit_or v (2 ^ (q % 32)) in
     dite (ℕ_discrete (p / 32) (q / 32))
     (λ same. ap (λ (z : ℕ). bit (seen (saw (N (q / 32)) w d) (N z)) (p % 32)) same
-      ∙ (ap (λ (z : ℕ). bit z (p % 32)) (seen_here d (N (q / 32)) w fits size)
-      ∙ (bit_or_else v (q % 32) (p % 32) (λ e. other (same_place p q same e))
-      ∙ (ap (λ (z : ℕ). bit z (p % 32)) is ∙ ap (λ (z : ℕ). bit (seen d (N z)) (p % 32)) (sym same)))))
+    ∙ (ap (λ (z : ℕ). bit z (p % 32)) (seen_here d (N (q / 32)) w fits size)
+    ∙ (bit_or_else v (q % 32) (p % 32) (λ e. other (same_place p q same e))
+    ∙ (ap (λ (z : ℕ). bit z (p % 32)) is ∙ ap (λ (z : ℕ). bit (seen d (N z)) (p % 32)) (sym same)))))
     (λ apart. ap (λ (z : ℕ). bit z (p % 32)) (seen_else d (N (q / 32)) (N (p / 32)) w fits there (λ e. apart (one (p / 32) (q / 32) e))))
 
 module _ (d : View) (q n v : ℕ) (ls : List Lane) (a : AreLanes d n ls) where
@@ -282,32 +282,32 @@ module _ (d : View) (q n v : ℕ) (ls : List Lane) (a : AreLanes d n ls) where
         total = let o = wide_out true q ls f in let c = (a.each q f.lane f.at).count in let t = a.total in omega arith;
         each = λ p l at. ⊎_elim
             (λ (z : Here p l).
-              let y = z.1.0 in let eq = z.1.2 in let e = a.each q y z.1.1 in
-              let o = e.out h.2 in let t = e.taken in let un = h.3 in
-              let back : part_bit (λ (u : ℕ). seen (saw x w d) (Return u)) q ≡ 0 =
-                ap (λ (u : ℕ). bit u (q % 32)) (seen_else d x (Return (q / 32)) w fits fits (return_take (q / 32) (q / 32))) ∙ (let m : part_bit (λ (u : ℕ). seen d (Return u)) q ≡ 0 = omega arith in m) in
-              let t' : flag l.taken ≡ 1 = ap (λ (k : Lane). flag k.taken) (sym eq) in let o' : flag l.out ≡ 1 = ap (λ (k : Lane). flag k.out) (sym eq) in
-              let made : IsLane (taken q b w d) q l = record {
-                first = ap (λ (k : Lane). k.first) (sym eq) ∙ e.first;
-                count = ap (λ (k : Lane). k.count) (sym eq) ∙ e.count;
-                taken = set_here d Take q v fits a.words ∙ sym t';
-                out = λ act. omega arith;
-                home = λ idle. absurd (idle h.2);
-                unreturned = λ less below. absurd (omega arith);
-                untaken = λ less below. absurd (omega arith);
-              } in subst (λ (k : ℕ). IsLane (taken q b w d) k l) (sym z.0) made)
+            let y = z.1.0 in let eq = z.1.2 in let e = a.each q y z.1.1 in
+            let o = e.out h.2 in let t = e.taken in let un = h.3 in
+            let back : part_bit (λ (u : ℕ). seen (saw x w d) (Return u)) q ≡ 0 =
+            ap (λ (u : ℕ). bit u (q % 32)) (seen_else d x (Return (q / 32)) w fits fits (return_take (q / 32) (q / 32))) ∙ (let m : part_bit (λ (u : ℕ). seen d (Return u)) q ≡ 0 = omega arith in m) in
+            let t' : flag l.taken ≡ 1 = ap (λ (k : Lane). flag k.taken) (sym eq) in let o' : flag l.out ≡ 1 = ap (λ (k : Lane). flag k.out) (sym eq) in
+            let made : IsLane (taken q b w d) q l = record {
+              first = ap (λ (k : Lane). k.first) (sym eq) ∙ e.first;
+              count = ap (λ (k : Lane). k.count) (sym eq) ∙ e.count;
+              taken = set_here d Take q v fits a.words ∙ sym t';
+              out = λ act. omega arith;
+              home = λ idle. absurd (idle h.2);
+              unreturned = λ less below. absurd (omega arith);
+              untaken = λ less below. absurd (omega arith);
+            } in subst (λ (k : ℕ). IsLane (taken q b w d) k l) (sym z.0) made)
             (λ (z : There p l).
-              let e = a.each p l z.1 in let there = word_there d n p ls l a z.1 in
-              let back = ap (λ (u : ℕ). bit u (p % 32)) (seen_else d x (Return (p / 32)) w fits there (return_take (p / 32) (q / 32))) in
-              let made : IsLane (taken q b w d) p l = record {
-                first = e.first;
-                count = e.count;
-                taken = set_else d Take p q v take_one fits there a.words is z.0 ∙ e.taken;
-                out = λ act. ap (λ (u : ℕ). u + flag l.out) back ∙ e.out act;
-                home = e.home;
-                unreturned = λ less below. absurd (omega arith);
-                untaken = λ less below. absurd (omega arith);
-              } in made)
+            let e = a.each p l z.1 in let there = word_there d n p ls l a z.1 in
+            let back = ap (λ (u : ℕ). bit u (p % 32)) (seen_else d x (Return (p / 32)) w fits there (return_take (p / 32) (q / 32))) in
+            let made : IsLane (taken q b w d) p l = record {
+              first = e.first;
+              count = e.count;
+              taken = set_else d Take p q v take_one fits there a.words is z.0 ∙ e.taken;
+              out = λ act. ap (λ (u : ℕ). u + flag l.out) back ∙ e.out act;
+              home = e.home;
+              unreturned = λ less below. absurd (omega arith);
+              untaken = λ less below. absurd (omega arith);
+            } in made)
             (flagged_at true true q ls p l at);
       }
 
@@ -324,29 +324,29 @@ module _ (d : View) (q n v : ℕ) (ls : List Lane) (a : AreLanes d n ls) where
         total = let o = wide_home true true q ls f in let c = (a.each q f.lane f.at).count in let t = a.total in omega arith;
         each = λ p l at. ⊎_elim
             (λ (z : Here p l).
-              let y = z.1.0 in let eq = z.1.2 in let e = a.each q y z.1.1 in
-              let t' : flag l.taken ≡ 1 = ap (λ (k : Lane). flag k.taken) (sym eq) in let o' : flag l.out ≡ 0 = ap (λ (k : Lane). flag k.out) (sym eq) in
-              let back = set_here d Return q v fits a.words in
-              let made : IsLane (given_back q w d) q l = record {
-                first = ap (λ (k : Lane). k.first) (sym eq) ∙ e.first;
-                count = ap (λ (k : Lane). k.count) (sym eq) ∙ e.count;
-                taken = ap (λ (u : ℕ). bit u (q % 32)) (seen_else d x (Take (q / 32)) w fits fits (take_return (q / 32) (q / 32))) ∙ (h.3 ∙ sym t');
-                out = λ act. omega arith;
-                home = λ idle. absurd (idle h.2);
-                unreturned = λ less below. absurd (omega arith);
-                untaken = λ less below. absurd (omega arith);
-              } in subst (λ (k : ℕ). IsLane (given_back q w d) k l) (sym z.0) made)
+            let y = z.1.0 in let eq = z.1.2 in let e = a.each q y z.1.1 in
+            let t' : flag l.taken ≡ 1 = ap (λ (k : Lane). flag k.taken) (sym eq) in let o' : flag l.out ≡ 0 = ap (λ (k : Lane). flag k.out) (sym eq) in
+            let back = set_here d Return q v fits a.words in
+            let made : IsLane (given_back q w d) q l = record {
+              first = ap (λ (k : Lane). k.first) (sym eq) ∙ e.first;
+              count = ap (λ (k : Lane). k.count) (sym eq) ∙ e.count;
+              taken = ap (λ (u : ℕ). bit u (q % 32)) (seen_else d x (Take (q / 32)) w fits fits (take_return (q / 32) (q / 32))) ∙ (h.3 ∙ sym t');
+              out = λ act. omega arith;
+              home = λ idle. absurd (idle h.2);
+              unreturned = λ less below. absurd (omega arith);
+              untaken = λ less below. absurd (omega arith);
+            } in subst (λ (k : ℕ). IsLane (given_back q w d) k l) (sym z.0) made)
             (λ (z : There p l).
-              let e = a.each p l z.1 in let there = word_there d n p ls l a z.1 in
-              let made : IsLane (given_back q w d) p l = record {
-                first = e.first;
-                count = e.count;
-                taken = ap (λ (u : ℕ). bit u (p % 32)) (seen_else d x (Take (p / 32)) w fits there (take_return (p / 32) (q / 32))) ∙ e.taken;
-                out = λ act. ap (λ (u : ℕ). u + flag l.out) (set_else d Return p q v return_one fits there a.words is z.0) ∙ e.out act;
-                home = e.home;
-                unreturned = λ less below. absurd (omega arith);
-                untaken = λ less below. absurd (omega arith);
-              } in made)
+            let e = a.each p l z.1 in let there = word_there d n p ls l a z.1 in
+            let made : IsLane (given_back q w d) p l = record {
+              first = e.first;
+              count = e.count;
+              taken = ap (λ (u : ℕ). bit u (p % 32)) (seen_else d x (Take (p / 32)) w fits there (take_return (p / 32) (q / 32))) ∙ e.taken;
+              out = λ act. ap (λ (u : ℕ). u + flag l.out) (set_else d Return p q v return_one fits there a.words is z.0) ∙ e.out act;
+              home = e.home;
+              unreturned = λ less below. absurd (omega arith);
+              untaken = λ less below. absurd (omega arith);
+            } in made)
             (flagged_at true false q ls p l at);
       }
 
@@ -407,8 +407,7 @@ cell_spots t g v geo c q e first after ls ls' same inside is a b =
     let there : q ≡ recv_of g c = is ∙ ap (λ (z : Shape). recv_of z c) (sym geo) in
     let start : first ≡ first_received g (recv_of g c) = a ∙ (λ i. first_received (sym geo i) (there i)) in
     let first_is : first ≡ first_received g q = a ∙ ap (λ (z : Shape). first_received z q) (sym geo) in
-    let room : after - first ≡ cells_of g q = (λ i. b i - a i) ∙ ap (λ (z : Shape). cells_of z q) (sym geo) in
-    (
+    let room : after - first ≡ cells_of g q = (λ i. b i - a i) ∙ ap (λ (z : Shape). cells_of z q) (sym geo) in (
       f.0,
       subst (λ (z : ℕ). c - first < z) room f.1,
       (λ i. place (same i) (there i) + (c - start i)),

@@ -32,10 +32,10 @@ returns c =
     let low = i.from in let most = i.most in let end = c.loop-at-test.false in let to = c.min-to.ensures in
     let turned : from ≡ 32 * c.args.word = omega arith in
     i.lanes ∙ (⊎_elim
-      (λ (full : n ≡ 32). ap (λ (z : ℕ). untaken from z ls) full)
-      (λ (all : length ls ≤ from + n). untaken_all from n 32 ls all most)
-      (elim (cases_lt n 32) [
-        | inl less ↦ inr (omega arith)
-        | inr more ↦ inl (omega arith)
-      ])
-      ∙ ap (λ (z : ℕ). untaken z 32 ls) turned)
+    (λ (full : n ≡ 32). ap (λ (z : ℕ). untaken from z ls) full)
+    (λ (all : length ls ≤ from + n). untaken_all from n 32 ls all most)
+    (elim (cases_lt n 32) [
+      | inl less ↦ inr (omega arith)
+      | inr more ↦ inl (omega arith)
+    ])
+    ∙ ap (λ (z : ℕ). untaken z 32 ls) turned)

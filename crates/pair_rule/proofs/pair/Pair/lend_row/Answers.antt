@@ -38,7 +38,7 @@ unwrap-buf-requires g c =
     let small : k < n = let t = c.loop-index-test.true in omega arith in
     let y = lent_at p f n h.0 me.1 h.1 h.2 k small in
     let found : get_elem? (overlaid p f (replicate k None) me.1) (p + k) ≡ some (f + k, c.swap_part.result) =
-      subst (λ (z : Seat). get_elem? z.1 (p + k) ≡ some (first_slot z.0.geometry e q + k, c.swap_part.result)) v.slots c.swap_part.ensures.found in
+    subst (λ (z : Seat). get_elem? z.1 (p + k) ≡ some (first_slot z.0.geometry e q + k, c.swap_part.result)) v.slots c.swap_part.ensures.found in
     let is : c.swap_part.result ≡ Some y.0 = same_value (f + k) c.swap_part.result (Some y.0) (sym found ∙ y.1) in search rules
 
 pub loop-index-preserved : goal.loop-index-preserved
@@ -51,7 +51,7 @@ loop-index-preserved g c =
     let w = c.swap_part.ensures in let r = c.push.ensures in let b : Buf = c.unwrap-buf.result in
     let is : c.swap_part.result ≡ Some b = search rules in
     let found : get_elem? (overlaid p f (replicate k None) me.1) (p + k) ≡ some (f + k, Some b) =
-      subst (λ (z : Seat). get_elem? z.1 (p + k) ≡ some (first_slot z.0.geometry e q + k, c.swap_part.result)) v.slots w.found ∙ ap (λ (z : Option Buf). some (f + k, z)) is in
+    subst (λ (z : Seat). get_elem? z.1 (p + k) ≡ some (first_slot z.0.geometry e q + k, c.swap_part.result)) v.slots w.found ∙ ap (λ (z : Option Buf). some (f + k, z)) is in
     record {
       table = w.seat.0 ∙ v.table;
       id = w.seat.1 ∙ v.id;

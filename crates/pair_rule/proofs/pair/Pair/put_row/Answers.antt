@@ -53,5 +53,5 @@ unreachable-requires g c =
     let over : List (ℕ × Option Buf) = overlaid (p + length items) (f + length items) (map Some (drop (length items) all)) me.1 in
     let at = put_at p f n me.1 c.requires.held k (length items) (map Some (drop (length items) all)) small K in
     let found : get_elem? over (p + k) ≡ some (f + k, c.swap_part-old.result) =
-      subst (λ (z : Seat × ℕ). get_elem? z.0.1 (p + z.1) ≡ some (first_slot z.0.0.geometry e q + z.1, c.swap_part-old.result)) (λ i. (v.slots i, c.len-index.ensures i)) c.swap_part-old.ensures.found in
+    subst (λ (z : Seat × ℕ). get_elem? z.0.1 (p + z.1) ≡ some (first_slot z.0.0.geometry e q + z.1, c.swap_part-old.result)) (λ i. (v.slots i, c.len-index.ensures i)) c.swap_part-old.ensures.found in
     c.in_default.not-None (same_value (f + k) c.swap_part-old.result None (sym found ∙ at))

@@ -33,7 +33,7 @@ swap_part-old-requires-clause-index g c =
     let geo : me.0.geometry ≡ t = ap (λ v. v.view.geometry) c.seat.view_is ∙ (c.requires.pair.1 ∙ to) in
     let same : c.deref.result.now ≡ c.seat.inside.lanes.items = search rules in let f = c.received-first in
     (cell_spots t me.0.geometry v geo cell c.cell-q.result.recv c.args.place f.result.0 f.result.1 c.seat.inside.lanes.items c.deref.result.now same inside
-      (ap (λ z. z.recv) c.cell-q.ensures) (ap (λ z. z.0) f.ensures.value) (ap (λ z. z.1) f.ensures.value)).1
+    (ap (λ z. z.recv) c.cell-q.ensures) (ap (λ z. z.0) f.ensures.value) (ap (λ z. z.1) f.ensures.value)).1
 
 pub swap_part-old-requires-clause-held : goal.swap_part-old-requires-clause-held
 swap_part-old-requires-clause-held g c =
@@ -43,6 +43,6 @@ swap_part-old-requires-clause-held g c =
     let geo : me.0.geometry ≡ t = ap (λ v. v.view.geometry) c.seat.view_is ∙ (c.requires.pair.1 ∙ to) in
     let same : c.deref.result.now ≡ c.seat.inside.lanes.items = search rules in let f = c.received-first in
     let s = cell_spots t me.0.geometry v geo cell c.cell-q.result.recv c.args.place f.result.0 f.result.1 c.seat.inside.lanes.items c.deref.result.now same inside
-      (ap (λ z. z.recv) c.cell-q.ensures) (ap (λ z. z.0) f.ensures.value) (ap (λ z. z.1) f.ensures.value) in
+    (ap (λ z. z.recv) c.cell-q.ensures) (ap (λ z. z.0) f.ensures.value) (ap (λ z. z.1) f.ensures.value) in
     let out = subst (IsOut c.args.place cell None) (sym c.seat.view_is) c.requires.held in
     (None, subst (λ (z : ℕ × ℕ). get_elem? me.1 z.0 ≡ some (z.1, None)) (λ i. (sym s.2 i, sym s.3 i)) out)
