@@ -14,3 +14,8 @@ pub mod LanesKept
 pub mod RecvCalls
 pub mod TakeCalls
 pub mod LanesFirst
+pub mod Calls
+pub mod Marking
+pub mod Rows
+pub mod LanesStay
+pub mod MarkSeats

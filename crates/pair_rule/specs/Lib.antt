@@ -6,3 +6,4 @@ pub mod Rule
 pub mod Steps
 pub mod Seats
 pub mod Parts
+pub mod Marking

@@ -3,6 +3,8 @@
 
 mod buf;
 mod content;
+mod looks;
+mod mark;
 mod pair;
 mod plays;
 mod recv;
@@ -16,6 +18,7 @@ mod words;
 
 pub use buf::CellBuf;
 pub use content::{AnyBytes, Content};
+pub use looks::Seated;
 pub use pair::Pair;
 pub use rule::{Key, Ruled};
 pub use seats::{MarkSeat, Note, RecvSeat, SendSeat, Shelf, WatchSeat};

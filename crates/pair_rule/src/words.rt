@@ -1,10 +1,15 @@
 //! The numbers of the words of a pair.
 
-ghost use Rattle.std.specs.Prelude.{◌≡◌, ◌<◌, ◌≤◌};
+ghost use Rattle.std.specs.Prelude.{◌≡◌, ◌<◌, ◌≤◌, ◌^◌};
 ghost use Rattle.part_geometry.specs.Pieces.{pieces};
 ghost use Rattle.pair_core.specs.Names.{Claim, Release, Take, Return, Piece, claim_words, take_words, number};
+ghost use Rattle.pair_core.specs.Words.{empty};
+ghost use Rattle.pair_core.specs.Moves.{last_round_number};
 ghost use Rattle.pair_core.specs.State.{word_count};
+ghost use Rattle.part_geometry.specs.Cells.{cells};
+ghost use Rattle.pair_rule.specs.Rule.{slot_number};
 
+use gate_word::pack;
 use part_tables::Tables;
 
 /// How many claim words there are.
@@ -47,6 +52,7 @@ pub(crate) fn take_word(tables: &Tables, t: usize) -> usize
     ensures value { result ≡ number tables.now (Take t) }
     ensures inside { result < word_count tables.now }
 {
+    let _geometry = tables.geometry();
     claim_words(tables) + 1 + t
 }
 
@@ -66,5 +72,33 @@ pub(crate) fn piece_word(tables: &Tables, place: usize, i: usize) -> usize
     ensures value { result ≡ number tables.now (Piece place i) }
     ensures inside { result < word_count tables.now }
 {
+    let _geometry = tables.geometry();
     claim_words(tables) + 1 + 2 * take_words(tables) + (place * tables.pieces() + i)
+}
+
+/// The number of the slot of cell `cell` at a place; or the one behind the place's last.
+pub(crate) fn slot_of(tables: &Tables, place: usize, cell: usize) -> usize
+    requires place { place < tables.now.depth }
+    requires cell { cell ≤ cells tables.now }
+    ensures { result ≡ slot_number tables.now place cell }
+{
+    let _geometry = tables.geometry();
+    place * tables.cells() + cell
+}
+
+/// The number whose one bit is bit `j`.
+pub(crate) fn one_bit(j: u32) -> u64
+    requires { j < 33 }
+    ensures { result ≡ 2 ^ j }
+{
+    1 << j
+}
+
+/// The open word of a round with no bit set.
+#[tactic(auto, unfolding(pair_core::specs::Words::empty))]
+pub(crate) fn empty_word(round: u32) -> u64
+    requires { round ≤ last_round_number }
+    ensures { result ≡ empty round }
+{
+    pack(round, false, 0)
 }
