@@ -1,18 +1,17 @@
 -- Before the first round the lanes agree with what the receive side knows: each partition is taken and given back in round 0.
-use Rattle.std.proofs.Common.{◌≡◌, ℕ, zero, suc, ◌+◌, ◌/◌, ◌%◌, ◌<◌, List, [], ◌∷◌, map, length, refl, sym, ap, ◌∙◌, arith}
+use Rattle.std.proofs.Common.{◌≡◌, ℕ, zero, suc, ◌+◌, ◌/◌, ◌%◌, ◌<◌, List, map, length, refl, sym, ap, ◌∙◌, arith}
 use Rattle.std.specs.List.{range_with_len}
 use Rattle.std.proofs.lemmas.List.FromFn.{length-map-range_with_len}
 use mathlib.Core.Option.{some, some-injective, some-ne-none}
 use lib.ListN.{get_elem?}
 use Rattle.part_geometry.specs.Shape.{Shape, IsShape}
 use Rattle.pair_core.specs.Words.{bit}
-use Rattle.pair_core.specs.Names.{Take, Return, take_words}
+use Rattle.pair_core.specs.Names.{Take, take_words}
 use Rattle.pair_core.specs.State.{word_count, ListsWords}
 use Rattle.pair_core.specs.Moves.{first_word, first_state}
 use Rattle.pair_core.specs.declared.view.RecvSide.{RecvSide}
 use Rattle.pair_core.proofs.Facts.{starts_sound}
 use Rattle.slot_rows.specs.declared.lane.Lane.{Lane}
-use Rattle.pair_rule.specs.Views.{seen}
 use Rattle.pair_rule.specs.Seats.{AreLanes, flag}
 use Rattle.pair_rule.specs.Parts.{first_lane, first_lanes}
 use Rattle.pair_rule.specs.declared.view.View.{View}

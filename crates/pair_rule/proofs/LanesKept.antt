@@ -1,6 +1,6 @@
 -- The lanes of the receive seat agree with what it knows after each of its steps. A step changes one word that the seat has seen:
 -- of a lane's bits, those of other words are as before, and in the word itself the bits are all 0, or one is set.
-use Rattle.std.proofs.Common.{◌≡◌, ◌≢◌, ◌⊎◌, inl, inr, ⊎_elim, ℕ, zero, suc, ◌+◌, ◌-◌, ◌*◌, ◌%◌, ◌/◌, ◌^◌, ◌<◌, ◌≤◌, Bool, true, false, List, [], ◌∷◌, length, get_or, set, take, drop, ◌++◌, take_at, bit_or, Option, refl, sym, ap, ◌∙◌, subst, arith, length-set, get_or-set_same, get_or-set_other, div-add-mod'}
+use Rattle.std.proofs.Common.{◌≡◌, ◌≢◌, ◌⊎◌, inl, inr, ⊎_elim, ℕ, zero, suc, ◌+◌, ◌-◌, ◌*◌, ◌%◌, ◌/◌, ◌^◌, ◌<◌, ◌≤◌, Bool, true, false, List, [], ◌∷◌, length, take, drop, ◌++◌, take_at, bit_or, refl, sym, ap, ◌∙◌, subst, arith, length-set, get_or-set_same, get_or-set_other, div-add-mod'}
 use mathlib.Core.Logic.{dite}
 use mathlib.Core.Option.{some, some-injective, some-ne-none}
 use native.Mathlib.Decide.{ℕ_discrete}
@@ -13,8 +13,8 @@ use Rattle.pair_core.specs.Words.{bit, empty}
 use Rattle.pair_core.specs.Names.{Name, Release, Take, Return, Fits, number, take_words}
 use Rattle.pair_core.specs.Reading.{part_bit}
 use Rattle.pair_core.specs.State.{word_count}
-use Rattle.pair_core.specs.Moves.{Move, StoreReturn, StoreTake, StoreRelease, TakePart, ReturnPart, IsRecvActive, IsRecvIdle, last_round_number}
-use Rattle.pair_core.proofs.Facts.{number_lt, number_one, bit_lt, bit_or_here, bit_or_else, empty_bit}
+use Rattle.pair_core.specs.Moves.{StoreReturn, StoreTake, StoreRelease, TakePart, ReturnPart, IsRecvActive, IsRecvIdle}
+use Rattle.pair_core.proofs.Facts.{number_lt, number_one, bit_or_here, bit_or_else, empty_bit}
 use Rattle.slot_rows.specs.declared.lane.Lane.{Lane}
 use Rattle.slot_rows.specs.Lanes.{wide, place, flagged, HasFlags}
 use Rattle.slot_rows.proofs.Lists.{at_split}

@@ -1,13 +1,12 @@
 -- What the receive side's stores ask of the table, with the numbers of a call in the place of the names of words.
-use Rattle.std.proofs.Common.{◌≡◌, ℕ, ◌^◌, ◌<◌, Bool, false, List, Option, refl, sym, ap, ◌∙◌, subst, arith}
+use Rattle.std.proofs.Common.{◌≡◌, ℕ, false, refl, sym, ◌∙◌, subst}
 use mathlib.Core.Option.{none}
 use Rattle.atomic_table.specs.Table.{Allows, step}
 use Rattle.gate_word.specs.Words.{word_of}
-use Rattle.part_geometry.specs.Shape.{Shape, IsShape}
+use Rattle.part_geometry.specs.Shape.{IsShape}
 use Rattle.pair_core.specs.Words.{empty}
-use Rattle.pair_core.specs.Names.{Name, Release, Take, Return, number}
-use Rattle.pair_core.specs.Moves.{Move, StoreReturn, StoreTake, StoreRelease, after}
-use Rattle.pair_rule.specs.Buf.{Buf}
+use Rattle.pair_core.specs.Names.{Release, Take, Return, number}
+use Rattle.pair_core.specs.Moves.{StoreReturn, StoreTake, StoreRelease, after}
 use Rattle.pair_rule.specs.Rule.{Holds}
 use Rattle.pair_rule.specs.Views.{stored_return, stored_take, released}
 use Rattle.pair_rule.specs.Steps.{MayMake, Seat, goes}

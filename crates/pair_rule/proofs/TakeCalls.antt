@@ -1,20 +1,20 @@
 -- What a take and a return ask of the table, and what they tell: the slots of a receive partition go out in one row, in front of
 -- the seat's others, and come home in one.
-use Rattle.std.proofs.Common.{◌≡◌, inl, ℕ, ◌+◌, ◌*◌, ◌%◌, ◌/◌, ◌^◌, ◌<◌, List, [], ◌++◌, length, map, drop, get_or, set, bit_or, Option, Some, refl, sym, ap, ◌∙◌, subst, arith, length-append}
+use Rattle.std.proofs.Common.{◌≡◌, inl, ℕ, ◌+◌, ◌*◌, ◌%◌, ◌/◌, ◌^◌, ◌<◌, List, [], ◌++◌, length, map, drop, get_or, set, bit_or, Option, Some, refl, sym, ap, ◌∙◌, subst, length-append}
 use Rattle.std.proofs.lemmas.List.{length-map}
 use mathlib.Core.Option.{some, none, some-injective}
 use mathlib.Core.Option as maybe
 use lib.ListN.{get_elem?}
-use Rattle.atomic_table.specs.Table.{Allows, Step, step, homes_after, carried_after}
+use Rattle.atomic_table.specs.Table.{Allows, Step, step, homes_after}
 use Rattle.part_geometry.specs.Shape.{Shape, IsShape}
 use Rattle.part_tables.specs.Parts.{first_received}
-use Rattle.pair_core.specs.Names.{Name, Take, Return, number, take_words}
-use Rattle.pair_core.specs.Moves.{Move, TakePart, ReturnPart}
+use Rattle.pair_core.specs.Names.{Take, Return, number, take_words}
+use Rattle.pair_core.specs.Moves.{TakePart, ReturnPart}
 use Rattle.slot_rows.specs.Lists.{row}
 use Rattle.slot_rows.proofs.Lists.{row_length}
 use Rattle.slot_rows.proofs.Acts.{takes_row, gives_row, cleared, stocked, taking_carries, taking_homes, taking_valid, giving_homes, giving_valid, giving_drops}
 use Rattle.pair_rule.specs.Buf.{Buf}
-use Rattle.pair_rule.specs.Rule.{At, Holds, Rule, slot_number}
+use Rattle.pair_rule.specs.Rule.{At, Holds, Rule}
 use Rattle.pair_rule.specs.Views.{seen, taken, given_back}
 use Rattle.pair_rule.specs.Steps.{MayMake, Seat, AreOf}
 use Rattle.pair_rule.specs.Seats.{cells_of}

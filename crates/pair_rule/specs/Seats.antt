@@ -1,10 +1,9 @@
 -- A pair and its seats, as callers see them.
-use Rattle.std.specs.Prelude.{◌≡◌, ℕ, ◌+◌, ◌-◌, ◌*◌, ◌/◌, ◌%◌, ◌<◌, ◌≤◌, Bool, true, false, List, [], ◌∷◌, length, map, Option, Some, None}
+use Rattle.std.specs.Prelude.{◌≡◌, ℕ, ◌+◌, ◌-◌, ◌/◌, ◌<◌, ◌≤◌, Bool, true, false, List, [], ◌∷◌, length, Option}
 use mathlib.Core.Option.{some}
 use lib.ListN.{get_elem?}
 use Rattle.atomic_table.specs.Seated.{TableId}
 use Rattle.part_geometry.specs.Shape.{Shape}
-use Rattle.part_geometry.specs.Cells.{cells, recv_of}
 use Rattle.part_tables.specs.Parts.{first_received}
 use Rattle.pair_core.specs.Names.{Take, Return, take_words}
 use Rattle.pair_core.specs.Reading.{part_bit}

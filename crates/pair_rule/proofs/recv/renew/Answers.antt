@@ -1,6 +1,5 @@
-use Rattle.std.proofs.Common.{◌≡◌, ◌⊎◌, ⊎_elim, ℕ, suc, List, length, ◌+◌, ◌-◌, ◌*◌, ◌≤◌, ◌<◌, false, inl, inr, sym, ap, ◌∙◌, arith}
+use Rattle.std.proofs.Common.{◌≡◌, ⊎_elim, ℕ, suc, length, ◌+◌, ◌-◌, ◌*◌, ◌≤◌, false, inl, inr, sym, ap, ◌∙◌, arith}
 use Rattle.std.proofs.lemmas.Bool.{cases_lt}
-use Rattle.slot_rows.specs.declared.lane.Lane.{Lane}
 use Rattle.slot_rows.specs.Lanes.{flagged}
 use Rattle.pair_rule.specs.Parts.{untaken}
 use Rattle.pair_rule.proofs.LanesKept.{untaken_none, untaken_more, untaken_all}

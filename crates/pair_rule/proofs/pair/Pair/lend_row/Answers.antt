@@ -1,5 +1,5 @@
 use Rattle.std.proofs.Common.{rules, ◌≡◌, ℕ, ◌+◌, ◌-◌, ◌<◌, true, List, [], ◌∷◌, Option, Some, None, map, replicate, set, length, ap, sym, ◌∙◌, subst, arith, length-append, length-set}
-use mathlib.Core.Option.{some, some-injective}
+use mathlib.Core.Option.{some}
 use lib.ListN.{get_elem?}
 use Rattle.part_geometry.specs.Shape.{Shape}
 use Rattle.slot_rows.specs.Lists.{row, overlaid}

@@ -1,4 +1,4 @@
-use Rattle.std.proofs.Common.{rules, ◌≡◌, ℕ, List, ap, sym, ◌∙◌, subst, length}
+use Rattle.std.proofs.Common.{◌≡◌, ℕ, ap, sym, subst, length}
 use Rattle.pair_rule.specs.Seats.{AreLanes}
 use Rattle.pair_rule.specs.Steps.{Seat}
 use Rattle.pair_rule.specs.declared.view.View.{View}

@@ -1,7 +1,7 @@
-use Rattle.std.proofs.Common.{rules, ◌≡◌, ℕ, suc, ◌+◌, ◌-◌, ◌<◌, true, List, [], ◌∷◌, ◌++◌, Option, Some, None, map, take, drop, set, length, ap, sym, ◌∙◌, subst, arith, length-append, length-set}
+use Rattle.std.proofs.Common.{◌≡◌, ℕ, suc, ◌+◌, ◌<◌, List, [], ◌∷◌, ◌++◌, Option, Some, None, map, take, drop, set, length, ap, sym, ◌∙◌, subst, arith, length-append, length-set}
 use mathlib.Core.Option.{some}
 use lib.ListN.{get_elem?}
-use Rattle.slot_rows.specs.Lists.{row, overlaid}
+use Rattle.slot_rows.specs.Lists.{overlaid}
 use Rattle.slot_rows.specs.Lanes.{place}
 use Rattle.slot_rows.proofs.Overlays.{put_at, put_set, popped}
 use Rattle.pair_rule.specs.Buf.{Buf}

@@ -1,11 +1,9 @@
-use Rattle.std.proofs.Common.{rules, ◌≡◌, ℕ, ◌+◌, ◌-◌, ◌<◌, ◌≤◌, List, Option, Some, None, length, ap, sym, ◌∙◌, subst, arith}
+use Rattle.std.proofs.Common.{rules, ◌≡◌, ℕ, ◌<◌, None, ap, sym, ◌∙◌, subst}
 use mathlib.Core.Option.{some}
 use lib.ListN.{get_elem?}
 use Rattle.part_geometry.specs.Shape.{Shape, IsShape}
 use Rattle.part_geometry.specs.Cells.{cells, recv_of}
 use Rattle.part_geometry.proofs.Rows.{row-below, recv-row}
-use Rattle.pair_rule.specs.Buf.{Buf}
-use Rattle.pair_rule.specs.Seats.{RecvHeld}
 use Rattle.pair_rule.specs.Parts.{IsOut}
 use Rattle.pair_rule.proofs.LanesKept.{cell_spots, cell_facts}
 use Rattle.pair_rule.proofs.pair.Pair.put_taken.Goals as goal

@@ -1,4 +1,4 @@
-use Rattle.std.proofs.Common.{rules, ◌≡◌, ℕ, ◌+◌, ◌<◌, ◌++◌, true, false, List, take, drop, ap, sym, ◌∙◌, subst, length, arith, length-append, length-drop, length-take-le}
+use Rattle.std.proofs.Common.{rules, ◌≡◌, ℕ, ◌+◌, ◌++◌, true, false, List, take, drop, ap, sym, ◌∙◌, subst, length, arith, length-append, length-drop, length-take-le}
 use Rattle.pair_core.specs.Moves.{ReturnPart}
 use Rattle.slot_rows.specs.declared.lane.Lane.{Lane}
 use Rattle.slot_rows.specs.Lanes.{place, flagged}

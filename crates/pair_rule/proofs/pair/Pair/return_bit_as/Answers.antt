@@ -3,12 +3,12 @@ use Rattle.part_geometry.specs.Shape.{Shape}
 use Rattle.pair_core.specs.Names.{Return, number}
 use Rattle.pair_core.specs.State.{word_count}
 use Rattle.slot_rows.specs.Lists.{row, rotated}
-use Rattle.slot_rows.specs.Lanes.{wide, place, HasFlags}
+use Rattle.slot_rows.specs.Lanes.{wide, place}
 use Rattle.slot_rows.proofs.Lists.{around_out, head_at, rotated_length}
-use Rattle.slot_rows.proofs.Lanes.{wide_below, spot}
+use Rattle.slot_rows.proofs.Lanes.{wide_below}
 use Rattle.pair_rule.specs.Buf.{Buf}
 use Rattle.pair_rule.specs.Views.{given_back}
-use Rattle.pair_rule.specs.Seats.{AreLanes, cells_of}
+use Rattle.pair_rule.specs.Seats.{cells_of}
 use Rattle.pair_rule.specs.Parts.{first_slot, place_of}
 use Rattle.pair_rule.specs.Steps.{Seat}
 use Rattle.pair_rule.proofs.LanesKept.{lane_spot}

@@ -1,4 +1,4 @@
-use Rattle.std.proofs.Common.{◌≡◌, ap, sym, ◌∙◌, subst, length}
+use Rattle.std.proofs.Common.{◌≡◌, ap, sym, subst, length}
 use Rattle.pair_core.specs.Moves.{StoreRelease}
 use Rattle.pair_rule.specs.Seats.{AreLanes}
 use Rattle.pair_rule.specs.Steps.{MayMake, Seat}

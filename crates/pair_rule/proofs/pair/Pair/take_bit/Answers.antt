@@ -1,4 +1,4 @@
-use Rattle.std.proofs.Common.{rules, ◌≡◌, ℕ, ◌+◌, ◌<◌, ◌^◌, ◌%◌, bit_or, true, List, [], Option, Some, map, ap, sym, ◌∙◌, subst, length, arith}
+use Rattle.std.proofs.Common.{rules, ◌≡◌, ℕ, ◌+◌, ◌^◌, ◌%◌, bit_or, true, List, [], Some, map, ap, sym, ◌∙◌, subst, length, arith}
 use Rattle.std.proofs.lemmas.List.{length-map}
 use Rattle.pair_core.specs.Moves.{TakePart}
 use Rattle.slot_rows.specs.declared.lane.Lane.{Lane}

@@ -1,4 +1,4 @@
-use Rattle.std.proofs.Common.{◌≡◌, ℕ, List, Option, Some, map, length, drop, ◌+◌, ◌-◌, ◌<◌, ◌++◌, ◌^◌, ◌%◌, ◌/◌, bit_or, sym, ap, ◌∙◌, subst, arith}
+use Rattle.std.proofs.Common.{◌≡◌, ℕ, List, Option, Some, map, length, drop, ◌+◌, ◌-◌, ◌<◌, ◌^◌, ◌%◌, ◌/◌, bit_or, sym, ap, ◌∙◌, subst, arith}
 use Rattle.part_geometry.specs.Shape.{Shape}
 use Rattle.pair_core.specs.Names.{Take, number}
 use Rattle.pair_core.specs.State.{word_count}

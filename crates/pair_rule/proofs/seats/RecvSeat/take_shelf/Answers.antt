@@ -1,4 +1,4 @@
-use Rattle.std.proofs.Common.{rules, ◌≡◌, ◌<◌, ℕ, List, Option, Some, length, ap, sym, ◌∙◌, subst}
+use Rattle.std.proofs.Common.{rules, ◌≡◌, ◌<◌, List, Option, Some, length, ap, sym, ◌∙◌}
 use mathlib.Core.Option.{some, some-injective}
 use lib.ListN.{get_elem?}
 use Rattle.atomic_table.proofs.Lists.{at_index}
