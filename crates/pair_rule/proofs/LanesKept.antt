@@ -1,27 +1,29 @@
 -- The lanes of the receive seat agree with what it knows after each of its steps. A step changes one word that the seat has seen:
 -- of a lane's bits, those of other words are as before, and in the word itself the bits are all 0, or one is set.
-use Rattle.part_geometry.specs.declared.TheConstants.{LAST_ROUND}
-use Rattle.std.proofs.Common.{◌≡◌, ◌≢◌, ◌⊎◌, inl, inr, ⊎_elim, ℕ, zero, suc, ◌+◌, ◌-◌, ◌*◌, ◌%◌, ◌/◌, ◌^◌, ◌<◌, ◌≤◌, Bool, true, false, List, [], ◌∷◌, length, get_or, set, take, drop, ◌++◌, take_at, bit_or, Option, refl, sym, ap, ◌∙◌, subst, arith, length-set, get_or-set_same, get_or-set_other, div-add-mod'}
+use Rattle.std.proofs.Common.{◌≡◌, ◌≢◌, ◌⊎◌, inl, inr, ⊎_elim, ℕ, zero, suc, ◌+◌, ◌-◌, ◌*◌, ◌%◌, ◌/◌, ◌^◌, ◌<◌, ◌≤◌, Bool, true, false, List, [], ◌∷◌, length, take, drop, ◌++◌, take_at, bit_or, refl, sym, ap, ◌∙◌, subst, arith, length-set, get_or-set_same, get_or-set_other, div-add-mod'}
 use mathlib.Core.Logic.{dite}
 use mathlib.Core.Option.{some, some-injective, some-ne-none}
 use native.Mathlib.Decide.{ℕ_discrete}
 use lib.ListN.{get_elem?}
 use Rattle.part_geometry.specs.Shape.{Shape, IsShape}
+use Rattle.part_geometry.specs.Cells.{cells, recv_of}
 use Rattle.part_tables.specs.Parts.{first_received}
+use Rattle.part_tables.proofs.Facts.{in_received}
 use Rattle.pair_core.specs.Words.{bit, empty}
 use Rattle.pair_core.specs.Names.{Name, Release, Take, Return, Fits, number, take_words}
 use Rattle.pair_core.specs.Reading.{part_bit}
 use Rattle.pair_core.specs.State.{word_count}
-use Rattle.pair_core.specs.Moves.{Move, StoreReturn, StoreTake, StoreRelease, TakePart, ReturnPart, IsRecvActive, IsRecvIdle}
-use Rattle.pair_core.proofs.Facts.{number_lt, number_one, bit_lt, bit_or_here, bit_or_else, empty_bit}
+use Rattle.pair_core.specs.Moves.{StoreReturn, StoreTake, StoreRelease, TakePart, ReturnPart, IsRecvActive, IsRecvIdle}
+use Rattle.pair_core.proofs.Facts.{number_lt, number_one, bit_or_here, bit_or_else, empty_bit}
 use Rattle.slot_rows.specs.declared.lane.Lane.{Lane}
 use Rattle.slot_rows.specs.Lanes.{wide, place, flagged, HasFlags}
 use Rattle.slot_rows.proofs.Lists.{at_split}
 use Rattle.slot_rows.proofs.Lanes.{flagged_at, flagged_length, wide_out, wide_home, home_width, spot}
 use Rattle.pair_rule.specs.Views.{seen, saw, stored_return, stored_take, released, taken, given_back}
 use Rattle.pair_rule.specs.Seats.{IsLane, AreLanes, flag, cells_of}
+use Rattle.pair_rule.specs.Rule.{slot_number}
 use Rattle.pair_rule.specs.Steps.{MayMake}
-use Rattle.pair_rule.specs.Parts.{untaken, fresh_lanes}
+use Rattle.pair_rule.specs.Parts.{untaken, fresh_lanes, first_slot, cell_spot}
 use Rattle.pair_rule.specs.declared.view.View.{View}
 
 -- the word of a name after the seat saw w at the name x
@@ -92,7 +94,7 @@ return_inactive : (d : View) (k t n : ℕ) (ls : List Lane) → IsShape d.geomet
 return_inactive d k t n ls v h a act = ⊎_elim
     (λ (z : (t ≡ 0) × IsRecvIdle d.recv × (k ≡ d.recv.round + 1)). let e = z.1 in let f = act.1 in absurd (omega arith))
     (λ (z : (1 ≤ t) × (t ≡ d.recv.returns) × (k ≡ d.recv.round)).
-      let some = some_word d.geometry v in let e = act.0 in let o = a.order (omega arith) in let low = h.1 in let is = z.1 in absurd (omega arith))
+    let some = some_word d.geometry v in let e = act.0 in let o = a.order (omega arith) in let low = h.1 in let is = z.1 in absurd (omega arith))
     h.3
 
 pub return_lanes : (d : View) (k t n : ℕ) (ls : List Lane) → IsShape d.geometry → MayMake d (StoreReturn k t) → AreLanes d n ls → AreLanes (stored_return k t d) n ls
@@ -112,13 +114,13 @@ return_lanes d k t n ls v h a =
         home = λ is. e.home not;
         unreturned = λ low below. dite (ℕ_discrete (q / 32) t)
             (λ same. ap (λ (z : ℕ). bit (seen (saw (Return t) (empty k) d) (Return z)) (q % 32)) same
-              ∙ (ap (λ (z : ℕ). bit z (q % 32)) (seen_here d (Return t) (empty k) h.1 a.words) ∙ empty_bit k (q % 32) (omega arith)))
+            ∙ (ap (λ (z : ℕ). bit z (q % 32)) (seen_here d (Return t) (empty k) h.1 a.words) ∙ empty_bit k (q % 32) (omega arith)))
             (λ other. ap (λ (z : ℕ). bit z (q % 32)) (seen_else d (Return t) (Return (q / 32)) (empty k) h.1 there (λ z. other (return_one (q / 32) t z)))
-              ∙ ⊎_elim
-                (λ (z : (t ≡ 0) × IsRecvIdle d.recv × (k ≡ d.recv.round + 1)). let zero' = z.0 in absurd (omega arith))
-                (λ (z : (1 ≤ t) × (t ≡ d.recv.returns) × (k ≡ d.recv.round)).
-                  let is = z.1 in let few : d.recv.takes < take_words g = before d.recv.takes d.recv.returns (take_words g) t a.order is h.1 in e.unreturned few (omega arith))
-                h.3);
+            ∙ ⊎_elim
+            (λ (z : (t ≡ 0) × IsRecvIdle d.recv × (k ≡ d.recv.round + 1)). let zero' = z.0 in absurd (omega arith))
+            (λ (z : (1 ≤ t) × (t ≡ d.recv.returns) × (k ≡ d.recv.round)).
+            let is = z.1 in let few : d.recv.takes < take_words g = before d.recv.takes d.recv.returns (take_words g) t a.order is h.1 in e.unreturned few (omega arith))
+            h.3);
         untaken = λ low below. absurd (omega arith);
       };
     }
@@ -150,7 +152,7 @@ untaken_length zero (suc n) (x ∷ xs) = ap suc (untaken_length zero n xs)
 untaken_length (suc k) n (x ∷ xs) = ap suc (untaken_length k n xs)
 
 -- where no lane is out, no slot is
-none_wide : (ls : List Lane) → ((q : ℕ) (l : Lane) → get_elem? ls q ≡ some l → l.out ≡ false) → wide ls ≡ 0
+pub none_wide : (ls : List Lane) → ((q : ℕ) (l : Lane) → get_elem? ls q ≡ some l → l.out ≡ false) → wide ls ≡ 0
 none_wide [] h = refl
 none_wide (l ∷ ls) h = let a = home_width l (h 0 l refl) in let b = none_wide ls (λ q x e. h (suc q) x e) in omega arith
 
@@ -164,8 +166,8 @@ take_lanes d k t n ls h a =
     let Inside : ℕ → Lane → Type 0 = λ q l. (32 * t ≤ q) × (q < 32 * t + 32) × ((y : Lane) × (get_elem? ls q ≡ some y) × (record y { taken = false; out = false } ≡ l)) in
     let Outside : ℕ → Lane → Type 0 = λ q l. ¬ ((32 * t ≤ q) × (q < 32 * t + 32)) × (get_elem? ls q ≡ some l) in
     let home : (q : ℕ) (l : Lane) → get_elem? (fresh_lanes t ls) q ≡ some l → l.out ≡ false = λ q l at. ⊎_elim
-        (λ (z : Inside q l). ap (λ (y : Lane). y.out) (sym z.2.2))
-        (λ (z : Outside q l). (a.each q l z.1).home not) (untaken_at (32 * t) 32 ls q l at) in
+    (λ (z : Inside q l). ap (λ (y : Lane). y.out) (sym z.2.2))
+    (λ (z : Outside q l). (a.each q l z.1).home not) (untaken_at (32 * t) 32 ls q l at) in
     record {
       words = length-set d.seen (number g x) w ∙ a.words;
       round = a.round;
@@ -174,38 +176,38 @@ take_lanes d k t n ls h a =
       total = a.total ∙ (none_wide ls (λ q l at. (a.each q l at).home not) ∙ sym (none_wide (fresh_lanes t ls) home));
       each = λ q l at. ⊎_elim
           (λ (z : Inside q l).
-            let y = z.2.0 in let there = z.2.1 in let eq = z.2.2 in let e = a.each q y there in let inside = word_there d n q ls y a there in
-            let here : q / 32 ≡ t = word_of_lane q t z.0 z.1 in
-            let back : part_bit (λ (u : ℕ). seen (saw x w d) (Return u)) q ≡ 0 =
-              ap (λ (u : ℕ). bit u (q % 32)) (seen_else d x (Return (q / 32)) w h.1 inside (return_take (q / 32) t)) ∙ e.unreturned few (omega arith) in
-            let no : flag l.taken ≡ 0 = ap (λ (v : Lane). flag v.taken) (sym eq) in let in' : flag l.out ≡ 0 = ap (λ (v : Lane). flag v.out) (sym eq) in
-            let unset : part_bit (λ (u : ℕ). seen (saw x w d) (Take u)) q ≡ 0 =
-              ap (λ (u : ℕ). bit (seen (saw x w d) (Take u)) (q % 32)) here
-              ∙ (ap (λ (u : ℕ). bit u (q % 32)) (seen_here d x w h.1 a.words) ∙ empty_bit d.recv.round (q % 32) (omega arith)) in
-            let made : IsLane (stored_take t d) q l = record {
-              first = ap (λ (v : Lane). v.first) (sym eq) ∙ e.first;
-              count = ap (λ (v : Lane). v.count) (sym eq) ∙ e.count;
-              taken = unset ∙ sym no;
-              out = λ act. omega arith;
-              home = λ idle. ap (λ (v : Lane). v.out) (sym eq);
-              unreturned = λ less below. back;
-              untaken = λ less below. ap (λ (v : Lane). v.taken) (sym eq);
-            } in made)
+          let y = z.2.0 in let there = z.2.1 in let eq = z.2.2 in let e = a.each q y there in let inside = word_there d n q ls y a there in
+          let here : q / 32 ≡ t = word_of_lane q t z.0 z.1 in
+          let back : part_bit (λ (u : ℕ). seen (saw x w d) (Return u)) q ≡ 0 =
+          ap (λ (u : ℕ). bit u (q % 32)) (seen_else d x (Return (q / 32)) w h.1 inside (return_take (q / 32) t)) ∙ e.unreturned few (omega arith) in
+          let no : flag l.taken ≡ 0 = ap (λ (v : Lane). flag v.taken) (sym eq) in let in' : flag l.out ≡ 0 = ap (λ (v : Lane). flag v.out) (sym eq) in
+          let unset : part_bit (λ (u : ℕ). seen (saw x w d) (Take u)) q ≡ 0 =
+          ap (λ (u : ℕ). bit (seen (saw x w d) (Take u)) (q % 32)) here
+          ∙ (ap (λ (u : ℕ). bit u (q % 32)) (seen_here d x w h.1 a.words) ∙ empty_bit d.recv.round (q % 32) (omega arith)) in
+          let made : IsLane (stored_take t d) q l = record {
+            first = ap (λ (v : Lane). v.first) (sym eq) ∙ e.first;
+            count = ap (λ (v : Lane). v.count) (sym eq) ∙ e.count;
+            taken = unset ∙ sym no;
+            out = λ act. omega arith;
+            home = λ idle. ap (λ (v : Lane). v.out) (sym eq);
+            unreturned = λ less below. back;
+            untaken = λ less below. ap (λ (v : Lane). v.taken) (sym eq);
+          } in made)
           (λ (z : Outside q l).
-            let e = a.each q l z.1 in let inside = word_there d n q ls l a z.1 in
-            let other : q / 32 ≢ t = λ same. z.0 (lane_of_word q t same) in
-            let seen_same : seen (saw x w d) (Take (q / 32)) ≡ seen d (Take (q / 32)) = seen_else d x (Take (q / 32)) w h.1 inside (λ s. other (take_one (q / 32) t s)) in
-            let seen_back : seen (saw x w d) (Return (q / 32)) ≡ seen d (Return (q / 32)) = seen_else d x (Return (q / 32)) w h.1 inside (return_take (q / 32) t) in
-            let back : part_bit (λ (u : ℕ). seen (saw x w d) (Return u)) q ≡ 0 = ap (λ (u : ℕ). bit u (q % 32)) seen_back ∙ e.unreturned few (omega arith) in
-            let made : IsLane (stored_take t d) q l = record {
-              first = e.first;
-              count = e.count;
-              taken = ap (λ (u : ℕ). bit u (q % 32)) seen_same ∙ e.taken;
-              out = λ act. let last = act.0 in let no = ap flag (e.untaken few (omega (arith, other))) in let in' = ap flag (e.home not) in omega arith;
-              home = λ idle. e.home not;
-              unreturned = λ less below. back;
-              untaken = λ less below. e.untaken few (omega (arith, other));
-            } in made)
+          let e = a.each q l z.1 in let inside = word_there d n q ls l a z.1 in
+          let other : q / 32 ≢ t = λ same. z.0 (lane_of_word q t same) in
+          let seen_same : seen (saw x w d) (Take (q / 32)) ≡ seen d (Take (q / 32)) = seen_else d x (Take (q / 32)) w h.1 inside (λ s. other (take_one (q / 32) t s)) in
+          let seen_back : seen (saw x w d) (Return (q / 32)) ≡ seen d (Return (q / 32)) = seen_else d x (Return (q / 32)) w h.1 inside (return_take (q / 32) t) in
+          let back : part_bit (λ (u : ℕ). seen (saw x w d) (Return u)) q ≡ 0 = ap (λ (u : ℕ). bit u (q % 32)) seen_back ∙ e.unreturned few (omega arith) in
+          let made : IsLane (stored_take t d) q l = record {
+            first = e.first;
+            count = e.count;
+            taken = ap (λ (u : ℕ). bit u (q % 32)) seen_same ∙ e.taken;
+            out = λ act. let last = act.0 in let no = ap flag (e.untaken few (omega (arith, other))) in let in' = ap flag (e.home not) in omega arith;
+            home = λ idle. e.home not;
+            unreturned = λ less below. back;
+            untaken = λ less below. e.untaken few (omega (arith, other));
+          } in made)
           (untaken_at (32 * t) 32 ls q l at);
     }
 
@@ -219,16 +221,16 @@ release_lanes d k n ls h a =
       parts = a.parts;
       total = a.total;
       each = λ q l at. let e = a.each q l at in let inside = part_there d n q ls l a at in let there = word_there d n q ls l a at in
-        let both = h.3 q inside in
-        let made : IsLane (released d) q l = record {
-          first = e.first;
-          count = e.count;
-          taken = ap (λ (z : ℕ). bit z (q % 32)) (seen_else d Release (Take (q / 32)) w tt there (take_release (q / 32))) ∙ e.taken;
-          out = λ act. let z = act.1 in absurd (omega arith);
-          home = λ idle. let o = e.out h.2 in let t = e.taken in let b0 = both.0 in let b1 = both.1 in flag_zero l.out (omega arith);
-          unreturned = λ less below. absurd (omega arith);
-          untaken = λ less below. absurd (omega arith);
-        } in made;
+          let both = h.3 q inside in
+          let made : IsLane (released d) q l = record {
+            first = e.first;
+            count = e.count;
+            taken = ap (λ (z : ℕ). bit z (q % 32)) (seen_else d Release (Take (q / 32)) w tt there (take_release (q / 32))) ∙ e.taken;
+            out = λ act. let z = act.1 in absurd (omega arith);
+            home = λ idle. let o = e.out h.2 in let t = e.taken in let b0 = both.0 in let b1 = both.1 in flag_zero l.out (omega arith);
+            unreturned = λ less below. absurd (omega arith);
+            untaken = λ less below. absurd (omega arith);
+          } in made;
     }
 
 -- ---- a take and a return of partition q
@@ -255,9 +257,9 @@ set_else d N p q v one fits there size is other =
     let w : ℕ = bit_or v (2 ^ (q % 32)) in
     dite (ℕ_discrete (p / 32) (q / 32))
     (λ same. ap (λ (z : ℕ). bit (seen (saw (N (q / 32)) w d) (N z)) (p % 32)) same
-      ∙ (ap (λ (z : ℕ). bit z (p % 32)) (seen_here d (N (q / 32)) w fits size)
-      ∙ (bit_or_else v (q % 32) (p % 32) (λ e. other (same_place p q same e))
-      ∙ (ap (λ (z : ℕ). bit z (p % 32)) is ∙ ap (λ (z : ℕ). bit (seen d (N z)) (p % 32)) (sym same)))))
+    ∙ (ap (λ (z : ℕ). bit z (p % 32)) (seen_here d (N (q / 32)) w fits size)
+    ∙ (bit_or_else v (q % 32) (p % 32) (λ e. other (same_place p q same e))
+    ∙ (ap (λ (z : ℕ). bit z (p % 32)) is ∙ ap (λ (z : ℕ). bit (seen d (N z)) (p % 32)) (sym same)))))
     (λ apart. ap (λ (z : ℕ). bit z (p % 32)) (seen_else d (N (q / 32)) (N (p / 32)) w fits there (λ e. apart (one (p / 32) (q / 32) e))))
 
 module _ (d : View) (q n v : ℕ) (ls : List Lane) (a : AreLanes d n ls) where
@@ -280,32 +282,32 @@ module _ (d : View) (q n v : ℕ) (ls : List Lane) (a : AreLanes d n ls) where
         total = let o = wide_out true q ls f in let c = (a.each q f.lane f.at).count in let t = a.total in omega arith;
         each = λ p l at. ⊎_elim
             (λ (z : Here p l).
-              let y = z.1.0 in let eq = z.1.2 in let e = a.each q y z.1.1 in
-              let o = e.out h.2 in let t = e.taken in let un = h.3 in
-              let back : part_bit (λ (u : ℕ). seen (saw x w d) (Return u)) q ≡ 0 =
-                ap (λ (u : ℕ). bit u (q % 32)) (seen_else d x (Return (q / 32)) w fits fits (return_take (q / 32) (q / 32))) ∙ (let m : part_bit (λ (u : ℕ). seen d (Return u)) q ≡ 0 = omega arith in m) in
-              let t' : flag l.taken ≡ 1 = ap (λ (k : Lane). flag k.taken) (sym eq) in let o' : flag l.out ≡ 1 = ap (λ (k : Lane). flag k.out) (sym eq) in
-              let made : IsLane (taken q b w d) q l = record {
-                first = ap (λ (k : Lane). k.first) (sym eq) ∙ e.first;
-                count = ap (λ (k : Lane). k.count) (sym eq) ∙ e.count;
-                taken = set_here d Take q v fits a.words ∙ sym t';
-                out = λ act. omega arith;
-                home = λ idle. absurd (idle h.2);
-                unreturned = λ less below. absurd (omega arith);
-                untaken = λ less below. absurd (omega arith);
-              } in subst (λ (k : ℕ). IsLane (taken q b w d) k l) (sym z.0) made)
+            let y = z.1.0 in let eq = z.1.2 in let e = a.each q y z.1.1 in
+            let o = e.out h.2 in let t = e.taken in let un = h.3 in
+            let back : part_bit (λ (u : ℕ). seen (saw x w d) (Return u)) q ≡ 0 =
+            ap (λ (u : ℕ). bit u (q % 32)) (seen_else d x (Return (q / 32)) w fits fits (return_take (q / 32) (q / 32))) ∙ (let m : part_bit (λ (u : ℕ). seen d (Return u)) q ≡ 0 = omega arith in m) in
+            let t' : flag l.taken ≡ 1 = ap (λ (k : Lane). flag k.taken) (sym eq) in let o' : flag l.out ≡ 1 = ap (λ (k : Lane). flag k.out) (sym eq) in
+            let made : IsLane (taken q b w d) q l = record {
+              first = ap (λ (k : Lane). k.first) (sym eq) ∙ e.first;
+              count = ap (λ (k : Lane). k.count) (sym eq) ∙ e.count;
+              taken = set_here d Take q v fits a.words ∙ sym t';
+              out = λ act. omega arith;
+              home = λ idle. absurd (idle h.2);
+              unreturned = λ less below. absurd (omega arith);
+              untaken = λ less below. absurd (omega arith);
+            } in subst (λ (k : ℕ). IsLane (taken q b w d) k l) (sym z.0) made)
             (λ (z : There p l).
-              let e = a.each p l z.1 in let there = word_there d n p ls l a z.1 in
-              let back = ap (λ (u : ℕ). bit u (p % 32)) (seen_else d x (Return (p / 32)) w fits there (return_take (p / 32) (q / 32))) in
-              let made : IsLane (taken q b w d) p l = record {
-                first = e.first;
-                count = e.count;
-                taken = set_else d Take p q v take_one fits there a.words is z.0 ∙ e.taken;
-                out = λ act. ap (λ (u : ℕ). u + flag l.out) back ∙ e.out act;
-                home = e.home;
-                unreturned = λ less below. absurd (omega arith);
-                untaken = λ less below. absurd (omega arith);
-              } in made)
+            let e = a.each p l z.1 in let there = word_there d n p ls l a z.1 in
+            let back = ap (λ (u : ℕ). bit u (p % 32)) (seen_else d x (Return (p / 32)) w fits there (return_take (p / 32) (q / 32))) in
+            let made : IsLane (taken q b w d) p l = record {
+              first = e.first;
+              count = e.count;
+              taken = set_else d Take p q v take_one fits there a.words is z.0 ∙ e.taken;
+              out = λ act. ap (λ (u : ℕ). u + flag l.out) back ∙ e.out act;
+              home = e.home;
+              unreturned = λ less below. absurd (omega arith);
+              untaken = λ less below. absurd (omega arith);
+            } in made)
             (flagged_at true true q ls p l at);
       }
 
@@ -322,29 +324,29 @@ module _ (d : View) (q n v : ℕ) (ls : List Lane) (a : AreLanes d n ls) where
         total = let o = wide_home true true q ls f in let c = (a.each q f.lane f.at).count in let t = a.total in omega arith;
         each = λ p l at. ⊎_elim
             (λ (z : Here p l).
-              let y = z.1.0 in let eq = z.1.2 in let e = a.each q y z.1.1 in
-              let t' : flag l.taken ≡ 1 = ap (λ (k : Lane). flag k.taken) (sym eq) in let o' : flag l.out ≡ 0 = ap (λ (k : Lane). flag k.out) (sym eq) in
-              let back = set_here d Return q v fits a.words in
-              let made : IsLane (given_back q w d) q l = record {
-                first = ap (λ (k : Lane). k.first) (sym eq) ∙ e.first;
-                count = ap (λ (k : Lane). k.count) (sym eq) ∙ e.count;
-                taken = ap (λ (u : ℕ). bit u (q % 32)) (seen_else d x (Take (q / 32)) w fits fits (take_return (q / 32) (q / 32))) ∙ (h.3 ∙ sym t');
-                out = λ act. omega arith;
-                home = λ idle. absurd (idle h.2);
-                unreturned = λ less below. absurd (omega arith);
-                untaken = λ less below. absurd (omega arith);
-              } in subst (λ (k : ℕ). IsLane (given_back q w d) k l) (sym z.0) made)
+            let y = z.1.0 in let eq = z.1.2 in let e = a.each q y z.1.1 in
+            let t' : flag l.taken ≡ 1 = ap (λ (k : Lane). flag k.taken) (sym eq) in let o' : flag l.out ≡ 0 = ap (λ (k : Lane). flag k.out) (sym eq) in
+            let back = set_here d Return q v fits a.words in
+            let made : IsLane (given_back q w d) q l = record {
+              first = ap (λ (k : Lane). k.first) (sym eq) ∙ e.first;
+              count = ap (λ (k : Lane). k.count) (sym eq) ∙ e.count;
+              taken = ap (λ (u : ℕ). bit u (q % 32)) (seen_else d x (Take (q / 32)) w fits fits (take_return (q / 32) (q / 32))) ∙ (h.3 ∙ sym t');
+              out = λ act. omega arith;
+              home = λ idle. absurd (idle h.2);
+              unreturned = λ less below. absurd (omega arith);
+              untaken = λ less below. absurd (omega arith);
+            } in subst (λ (k : ℕ). IsLane (given_back q w d) k l) (sym z.0) made)
             (λ (z : There p l).
-              let e = a.each p l z.1 in let there = word_there d n p ls l a z.1 in
-              let made : IsLane (given_back q w d) p l = record {
-                first = e.first;
-                count = e.count;
-                taken = ap (λ (u : ℕ). bit u (p % 32)) (seen_else d x (Take (p / 32)) w fits there (take_return (p / 32) (q / 32))) ∙ e.taken;
-                out = λ act. ap (λ (u : ℕ). u + flag l.out) (set_else d Return p q v return_one fits there a.words is z.0) ∙ e.out act;
-                home = e.home;
-                unreturned = λ less below. absurd (omega arith);
-                untaken = λ less below. absurd (omega arith);
-              } in made)
+            let e = a.each p l z.1 in let there = word_there d n p ls l a z.1 in
+            let made : IsLane (given_back q w d) p l = record {
+              first = e.first;
+              count = e.count;
+              taken = ap (λ (u : ℕ). bit u (p % 32)) (seen_else d x (Take (p / 32)) w fits there (take_return (p / 32) (q / 32))) ∙ e.taken;
+              out = λ act. ap (λ (u : ℕ). u + flag l.out) (set_else d Return p q v return_one fits there a.words is z.0) ∙ e.out act;
+              home = e.home;
+              unreturned = λ less below. absurd (omega arith);
+              untaken = λ less below. absurd (omega arith);
+            } in made)
             (flagged_at true false q ls p l at);
       }
 
@@ -391,3 +393,23 @@ flags_there d n q ls t o a f = part_there d n q ls f.lane a f.at
 -- lanes that were written back over a vector's
 pub written : (n : ℕ) (new old : List Lane) → length new ≡ length old → length old ≡ n → take n (new ++ drop (length new) old) ≡ new
 written n new old e f = take_at new (drop (length new) old) n (e ∙ f)
+
+-- where a cell is in its receive partition
+pub cell_facts : (g : Shape) → IsShape g → (c q e first after : ℕ) → c < cells g → recv_of g c ≡ q → first ≡ first_received g q → after ≡ first_received g (q + 1)
+    → (first ≤ c) × (c - first < after - first) × (slot_number g e first + (c - first) ≡ slot_number g e c)
+cell_facts g v c q e first after inside is a b = let h = (in_received g v q c inside).0 is in let low = h.0 in let high = h.1 in (omega arith, omega arith, omega arith)
+
+-- the same by the seat's geometry g, which the tables t have, and the lanes as a call reads them
+pub cell_spots : (t g : Shape) → IsShape t → g ≡ t → (c q e first after : ℕ) (ls ls' : List Lane) → ls' ≡ ls → c < cells t → q ≡ recv_of t c → first ≡ first_received t q → after ≡ first_received t (q + 1)
+    → (first ≤ c) × (c - first < cells_of g q) × (place ls' q + (c - first) ≡ cell_spot g ls c) × (first_slot g e q + (c - first) ≡ slot_number g e c)
+cell_spots t g v geo c q e first after ls ls' same inside is a b =
+    let f = cell_facts t v c q e first after inside (sym is) a b in
+    let there : q ≡ recv_of g c = is ∙ ap (λ (z : Shape). recv_of z c) (sym geo) in
+    let start : first ≡ first_received g (recv_of g c) = a ∙ (λ i. first_received (sym geo i) (there i)) in
+    let first_is : first ≡ first_received g q = a ∙ ap (λ (z : Shape). first_received z q) (sym geo) in
+    let room : after - first ≡ cells_of g q = (λ i. b i - a i) ∙ ap (λ (z : Shape). cells_of z q) (sym geo) in (
+      f.0,
+      subst (λ (z : ℕ). c - first < z) room f.1,
+      (λ i. place (same i) (there i) + (c - start i)),
+      ap (λ (z : ℕ). slot_number g e z + (c - first)) (sym first_is) ∙ (ap (λ (z : Shape). slot_number z e first + (c - first)) geo ∙ (f.2 ∙ ap (λ (z : Shape). slot_number z e c) (sym geo))),
+    )

@@ -14,12 +14,12 @@ pub mod FirstFacts
 pub mod Splitting
 pub mod Joining
 pub mod Closing
+pub mod LanesKept
+pub mod RecvCalls
+pub mod TakeCalls
 pub mod Calls
 pub mod Marking
 pub mod Rows
 pub mod LanesStay
 pub mod MarkSeats
 pub mod Starting
-pub mod LanesKept
-pub mod RecvCalls
-pub mod TakeCalls

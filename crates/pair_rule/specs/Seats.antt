@@ -6,7 +6,6 @@ use lib.ListN.{get_elem?}
 use Rattle.std.specs.List.{range_with_len}
 use Rattle.atomic_table.specs.Seated.{TableId}
 use Rattle.part_geometry.specs.Shape.{Shape}
-use Rattle.part_geometry.specs.Cells.{cells, recv_of}
 use Rattle.part_tables.specs.Parts.{first_received}
 use Rattle.pair_core.specs.Names.{Take, Return, take_words}
 use Rattle.pair_core.specs.Reading.{part_bit}
@@ -66,18 +65,19 @@ abbrev pub flag : Bool → ℕ
 flag true = 1
 flag false = 0
 
--- The lane of receive partition q: its cells, whether it was taken in the round of its take word, and whether its slots are out, which
--- is only while the side is active. Until then no return word and no take word that is stored has it.
+-- The lane of receive partition q: its cells, whether it was taken in the round of its take word, and whether its slots
+-- are out, which is only while the side is active. Until then no return word and no take word that is stored has it.
 pub record IsLane (d : View) (q : ℕ) (l : Lane) : Type 0 where
   pub first : l.first ≡ first_received d.geometry q
   pub count : l.count ≡ cells_of d.geometry q
   pub taken : part_bit (λ t. seen d (Take t)) q ≡ flag l.taken
   pub out : IsRecvActive d.geometry d.recv → part_bit (λ t. seen d (Return t)) q + flag l.out ≡ flag l.taken
   pub home : ¬ IsRecvActive d.geometry d.recv → l.out ≡ false
-  pub unreturned : d.recv.takes < take_words d.geometry → q / 32 < d.recv.returns → part_bit (λ t. seen d (Return t)) q ≡ 0
+  pub unreturned : d.recv.takes < take_words d.geometry → q / 32 < d.recv.returns
+      → part_bit (λ t. seen d (Return t)) q ≡ 0
   pub untaken : d.recv.takes < take_words d.geometry → q / 32 < d.recv.takes → l.taken ≡ false
 
--- n: how many slots are out with the seat. The take words are stored after all return words.
+-- n: how many slots are out with the seat. The take words are stored after all return words are.
 pub record AreLanes (d : View) (n : ℕ) (ls : List Lane) : Type 0 where
   pub words : length d.seen ≡ word_count d.geometry
   pub round : d.recv.round ≤ LAST_ROUND

@@ -6,7 +6,7 @@ ghost use Rattle.pair_core.specs.Moves.{StoreReturn, StoreTake, StoreRelease};
 ghost use Rattle.pair_rule.specs.Views.{stored_return, stored_take, released};
 ghost use Rattle.pair_rule.specs.Seats.{IsOf};
 ghost use Rattle.pair_rule.specs.Steps.{MayMake};
-ghost use Rattle.pair_rule.specs.Parts.{fresh_lanes};
+ghost use Rattle.pair_rule.specs.Parts.{fresh_lanes, renewed};
 ghost use Rattle.pair_rule.specs.declared.view.Standing.TheVariants.{Seated};
 
 use crate::content::Content;
@@ -76,8 +76,8 @@ impl<C: Content> Pair<C> {
             .store::<Releases>(seat, number, pack(round, false, 0));
     }
 
-    /// The receive side stores a return word, empty for the round: word 0 where the side is idle and the round is its next one,
-    /// another word where those before it are stored. A word has 32 partitions, and word 0 the first ones.
+    /// The receive side stores a return word, empty for the round: word 0 where the side is idle and the round is its
+    /// next one, another word where those before it are stored. A word has 32 partitions, and word 0 the first ones.
     pub fn store_return(&self, seat: &mut RecvSeat<C>, round: u32, word: u32)
         requires pair { IsOf seat.old.table seat.old.view self.now }
         requires allowed { MayMake seat.old.view (StoreReturn round word) }
@@ -86,12 +86,12 @@ impl<C: Content> Pair<C> {
         self.store_return_as::<Brand>(&mut seat.seat, round, word);
     }
 
-    /// The receive side stores a take word, empty for its round, where all return words and the take words before it are
-    /// stored. The partitions of the word are untaken from then on.
+    /// The receive side stores a take word, empty for its round, where all return words and the take words before it
+    /// are stored. The partitions of the word are untaken from then on.
     pub fn store_take(&self, seat: &mut RecvSeat<C>, round: u32, word: u32)
         requires pair { IsOf seat.old.table seat.old.view self.now }
         requires allowed { MayMake seat.old.view (StoreTake round word) }
-        ensures step { seat.new ≡ record seat.old { view = stored_take word seat.old.view; lanes = fresh_lanes word seat.old.lanes } }
+        ensures step { seat.new ≡ renewed word seat.old }
     {
         self.store_take_as::<Brand>(&mut seat.seat, round, word);
         renew(&mut seat.lanes, word);

@@ -1,20 +1,20 @@
 //! The steps of the receive side on a partition, the buffers of its cells, and the shelves of the receive seat.
 
-ghost use Rattle.std.specs.Prelude.{◌≡◌, ◌+◌, ◌/◌, ◌%◌, ◌^◌, ◌<◌, ◌≤◌, ℕ, List, [], ◌++◌, length, map, take, drop, replicate, true, false, Option, Some, None, bit_or, slice_set, IfOk};
+ghost use Rattle.std.specs.Prelude.{◌≡◌, ◌+◌, ◌/◌, ◌%◌, ◌^◌, ◌<◌, ◌≤◌, ℕ, List, [], Option, Some, None};
+ghost use Rattle.std.specs.Prelude.{length, map, replicate, true, slice_set, IfOk};
 ghost use mathlib.Core.Option.{some};
 ghost use lib.ListN.{get_elem?};
 ghost use Rattle.part_geometry.specs.Cells.{cells, recv_of};
-ghost use Rattle.slot_rows.specs.Lists.{row, spliced, overlaid};
-ghost use Rattle.slot_rows.specs.Lanes.{flagged, HasFlags};
+ghost use Rattle.slot_rows.specs.Lanes.{HasFlags};
 ghost use Rattle.pair_core.specs.Moves.{TakePart, ReturnPart};
 ghost use Rattle.pair_core.specs.Names.{Take, Return};
-ghost use Rattle.part_tables.specs.Parts.{first_received};
 ghost use Rattle.pair_rule.specs.Buf.{Buf};
-ghost use Rattle.pair_rule.specs.Rule.{slot_number};
-ghost use Rattle.pair_rule.specs.Views.{seen, taken, given_back};
+ghost use Rattle.pair_rule.specs.Views.{seen};
 ghost use Rattle.pair_rule.specs.Seats.{IsOf, AreLanes, Room, cells_of};
-ghost use Rattle.pair_rule.specs.Steps.{MayMake, AreOf};
-ghost use Rattle.pair_rule.specs.Parts.{first_slot, place_of, spot, cell_spot, first_lanes, first_shelves, AreTaken, HasTaken, HasOut, HasFilled, IsOut};
+ghost use Rattle.pair_rule.specs.Steps.{MayMake};
+ghost use Rattle.pair_rule.specs.Parts.{first_lanes, first_shelves, HasTaken, returned, HasOut, HasFilled, with_values};
+ghost use Rattle.pair_rule.specs.Parts.{IsOut, with_value, WereTaken, brought_home, AreFilled, AreFull, IsRow};
+ghost use Rattle.pair_rule.specs.Parts.{with_part, emptied, IsPartOut, with_part_value};
 ghost use Rattle.pair_rule.specs.declared.view.Standing.TheVariants.{Seated};
 
 use crate::buf::CellBuf;
@@ -57,10 +57,7 @@ pub(crate) fn lay_lanes(alloc: Global, tables: &Tables) -> Result<Vec<Lane>, All
 }
 
 /// An empty shelf for each receive partition, with room for the buffers of its cells.
-pub(crate) fn lay_shelves(
-    alloc: Global,
-    tables: &Tables,
-) -> Result<Vec<Option<Shelf>>, AllocError>
+pub(crate) fn lay_shelves(alloc: Global, tables: &Tables) -> Result<Vec<Option<Shelf>>, AllocError>
     ensures { IfOk result (λ shelves. shelves.items ≡ first_shelves tables.now) }
 {
     let parts = tables.geometry().recv_parts();
@@ -101,17 +98,14 @@ impl<C: Content> Pair<C> {
         requires allowed { MayMake seat.old.me.0 (TakePart q []) }
         ensures seat { (seat.new.table_id ≡ seat.old.table_id) × (seat.new.id ≡ seat.old.id) }
         ensures word { result ≡ seen seat.old.me.0 (Take (q / 32)) }
-        ensures step { (bufs : List Buf) × (with : List ℕ) × AreTaken X.may seat.old.me.0 q bufs with × (seat.new.me ≡ (taken q with (bit_or result (2 ^ (q % 32))) seat.old.me.0, spliced (spot lanes.now q) (first_slot seat.old.me.0.geometry (place_of seat.old.me.0) q) (map Some bufs) seat.old.me.1)) }
+        ensures step { WereTaken X.may lanes.now q result seat.old.me seat.new.me }
     {
         let mask = mask(q);
         let at = q as usize;
         let (first, after) = self.tables.received(at);
         let word = take_word(&self.tables, at / 32);
         pass_to(seat, lanes, at);
-        let found = self
-            .table
-            .shared
-            .fetch_or::<TakesPart<X>>(seat, word, mask);
+        let found = self.table.shared.fetch_or::<TakesPart<X>>(seat, word, mask);
         turn_times(seat, after - first);
         pass_from(seat, lanes, at);
         found
@@ -123,10 +117,10 @@ impl<C: Content> Pair<C> {
         requires live { seat.old.me.0.standing ≡ Seated }
         requires lanes { AreLanes seat.old.me.0 (length seat.old.me.1) lanes.now }
         requires allowed { MayMake seat.old.me.0 (ReturnPart q) }
-        requires held { (bufs : List Buf) × (length bufs ≡ cells_of seat.old.me.0.geometry q) × (take (cells_of seat.old.me.0.geometry q) (drop (spot lanes.now q) seat.old.me.1) ≡ row (first_slot seat.old.me.0.geometry (place_of seat.old.me.0) q) (map Some bufs)) × AreOf seat.old.me.0.geometry seat.old.me.0.recv.round (first_received seat.old.me.0.geometry q) bufs }
+        requires held { AreFilled lanes.now q seat.old.me }
         ensures seat { (seat.new.table_id ≡ seat.old.table_id) × (seat.new.id ≡ seat.old.id) }
         ensures word { result ≡ seen seat.old.me.0 (Return (q / 32)) }
-        ensures step { seat.new.me ≡ (given_back q (bit_or result (2 ^ (q % 32))) seat.old.me.0, take (spot lanes.now q) seat.old.me.1 ++ drop (spot lanes.now q + cells_of seat.old.me.0.geometry q) seat.old.me.1) }
+        ensures step { seat.new.me ≡ brought_home lanes.now q result seat.old.me }
     {
         let mask = mask(q);
         let at = q as usize;
@@ -140,29 +134,29 @@ impl<C: Content> Pair<C> {
         found
     }
 
-    /// The receive side takes partition `q` of its round, in one atomic step: the slots of its cells go out to the seat. The side
-    /// is active, the partition isn't taken in its round, and the seat has seen all pieces over it full. Answers the partition's
-    /// take word as the step found it, which is as the seat has last seen it.
+    /// The receive side takes partition `q` of its round, in one atomic step: the slots of its cells go out to the
+    /// seat. The side is active, the partition isn't taken in its round, and the seat has seen all pieces over it
+    /// full. Answers the partition's take word as the step found it, which is as the seat has last seen it.
     pub fn take_bit(&self, seat: &mut RecvSeat<C>, q: u32) -> u64
         requires pair { IsOf seat.old.table seat.old.view self.now }
         requires allowed { MayMake seat.old.view (TakePart q []) }
         ensures word { result ≡ seen seat.old.view (Take (q / 32)) }
-        ensures step { HasTaken (C.may self.now.key.tag) q (bit_or result (2 ^ (q % 32))) seat.old seat.new }
+        ensures step { HasTaken (C.may self.now.key.tag) q result seat.old seat.new }
     {
         let found = self.take_bit_as::<Brand>(&mut seat.seat, &seat.lanes, q);
         set_flags(&mut seat.lanes, q as usize, true, true);
         found
     }
 
-    /// The receive side gives partition `q` back, in one atomic step: the slots of its cells come home, each with a buffer of the
-    /// round and its cell's length. The side is active, and the partition is taken in its round and not given back. Answers
-    /// the partition's return word as the step found it, which is as the seat has last seen it.
+    /// The receive side gives partition `q` back, in one atomic step: the slots of its cells come home, each with a
+    /// buffer of the round and its cell's length. The side is active, and the partition is taken in its round and not
+    /// given back. Answers the partition's return word as the step found it, which is as the seat has last seen it.
     pub fn return_bit(&self, seat: &mut RecvSeat<C>, q: u32) -> u64
         requires pair { IsOf seat.old.table seat.old.view self.now }
         requires allowed { MayMake seat.old.view (ReturnPart q) }
         requires held { HasFilled q seat.old }
         ensures word { result ≡ seen seat.old.view (Return (q / 32)) }
-        ensures step { seat.new ≡ record seat.old { view = given_back q (bit_or result (2 ^ (q % 32))) seat.old.view; lanes = flagged true false q seat.old.lanes; slots = take (spot seat.old.lanes q) seat.old.slots ++ drop (spot seat.old.lanes q + cells_of seat.old.view.geometry q) seat.old.slots } }
+        ensures step { seat.new ≡ returned q result seat.old }
     {
         let found = self.return_bit_as::<Brand>(&mut seat.seat, &seat.lanes, q);
         set_flags(&mut seat.lanes, q as usize, true, false);
@@ -184,10 +178,10 @@ impl<C: Content> Pair<C> {
         requires place { place < self.now.key.geometry.depth }
         requires out { HasFlags true true q lanes.now }
         requires index { index < cells_of seat.old.me.0.geometry q }
-        requires held { (old : Option Buf) × (get_elem? seat.old.me.1 (spot lanes.now q + index) ≡ some (first_slot seat.old.me.0.geometry place q + index, old)) }
+        requires held { (old : Option Buf) × IsPartOut lanes.now place q index old seat.old.me }
         ensures seat { (seat.new.table_id ≡ seat.old.table_id) × (seat.new.id ≡ seat.old.id) }
-        ensures found { get_elem? seat.old.me.1 (spot lanes.now q + index) ≡ some (first_slot seat.old.me.0.geometry place q + index, result) }
-        ensures slots { seat.new.me ≡ (seat.old.me.0, slice_set seat.old.me.1 (spot lanes.now q + index) (first_slot seat.old.me.0.geometry place q + index, new)) }
+        ensures found { IsPartOut lanes.now place q index result seat.old.me }
+        ensures slots { seat.new.me ≡ with_part_value lanes.now place q index new seat.old.me }
     {
         let (first, _after) = self.tables.received(q as usize);
         let slot = place as usize * self.tables.cells() + first + index;
@@ -208,12 +202,14 @@ impl<C: Content> Pair<C> {
         requires lanes { AreLanes seat.old.me.0 (length seat.old.me.1) lanes.now }
         requires place { place < self.now.key.geometry.depth }
         requires out { HasFlags true true q lanes.now }
-        requires held { (bufs : List Buf) × (length bufs ≡ cells_of seat.old.me.0.geometry q) × (take (cells_of seat.old.me.0.geometry q) (drop (spot lanes.now q) seat.old.me.1) ≡ row (first_slot seat.old.me.0.geometry place q) (map Some bufs)) }
+        requires held { AreFull lanes.now place q seat.old.me }
         requires room { (shelf.old.bufs ≡ []) × (cells_of seat.old.me.0.geometry q ≤ shelf.old.room) }
         ensures seat { (seat.new.table_id ≡ seat.old.table_id) × (seat.new.id ≡ seat.old.id) }
-        ensures slots { seat.new.me ≡ (seat.old.me.0, overlaid (spot lanes.now q) (first_slot seat.old.me.0.geometry place q) (replicate (cells_of seat.old.me.0.geometry q) None) seat.old.me.1) }
-        ensures size { (length shelf.new.bufs ≡ cells_of seat.old.me.0.geometry q) × (shelf.old.room ≤ shelf.new.room) }
-        ensures bufs { row (first_slot seat.old.me.0.geometry place q) (map Some shelf.new.bufs) ≡ take (cells_of seat.old.me.0.geometry q) (drop (spot lanes.now q) seat.old.me.1) }
+        ensures slots { seat.new.me ≡ emptied lanes.now place q seat.old.me }
+        ensures long { length seat.new.me.1 ≡ length seat.old.me.1 }
+        ensures size { length shelf.new.bufs ≡ cells_of seat.old.me.0.geometry q }
+        ensures room { shelf.old.room ≤ shelf.new.room }
+        ensures bufs { IsRow lanes.now place q (map Some shelf.new.bufs) seat.old.me }
     {
         let (first, after) = self.tables.received(q as usize);
         for index in 0..after - first {
@@ -229,9 +225,10 @@ impl<C: Content> Pair<C> {
         requires place { place < self.now.key.geometry.depth }
         requires out { HasFlags true true q lanes.now }
         requires full { length shelf.old.bufs ≡ cells_of seat.old.me.0.geometry q }
-        requires held { take (cells_of seat.old.me.0.geometry q) (drop (spot lanes.now q) seat.old.me.1) ≡ row (first_slot seat.old.me.0.geometry place q) (replicate (cells_of seat.old.me.0.geometry q) None) }
+        requires held { IsRow lanes.now place q (replicate (cells_of seat.old.me.0.geometry q) None) seat.old.me }
         ensures seat { (seat.new.table_id ≡ seat.old.table_id) × (seat.new.id ≡ seat.old.id) }
-        ensures slots { seat.new.me ≡ (seat.old.me.0, overlaid (spot lanes.now q) (first_slot seat.old.me.0.geometry place q) (map Some shelf.old.bufs) seat.old.me.1) }
+        ensures slots { seat.new.me ≡ with_part lanes.now place q (map Some shelf.old.bufs) seat.old.me }
+        ensures long { length seat.new.me.1 ≡ length seat.old.me.1 }
         ensures shelf { (shelf.new.bufs ≡ []) × (shelf.new.room ≡ shelf.old.room) }
     {
         while shelf.len() > 0 {
@@ -250,7 +247,7 @@ impl<C: Content> Pair<C> {
         requires out { HasFlags true true (recv_of self.now.key.geometry cell) seat.old.lanes }
         requires held { (buf : Buf) × IsOut place cell (Some buf) seat.old }
         ensures found { IsOut place cell (Some result) seat.old }
-        ensures seat { seat.new ≡ record seat.old { slots = slice_set seat.old.slots (cell_spot seat.old.view.geometry seat.old.lanes cell) (slot_number seat.old.view.geometry place cell, None) } }
+        ensures seat { seat.new ≡ with_value place cell None seat.old }
     {
         let q = self.tables.cell(cell as usize).recv;
         let (first, _after) = self.tables.received(q as usize);
@@ -266,7 +263,7 @@ impl<C: Content> Pair<C> {
         requires cell { cell < cells self.now.key.geometry }
         requires out { HasFlags true true (recv_of self.now.key.geometry cell) seat.old.lanes }
         requires held { IsOut place cell None seat.old }
-        ensures seat { seat.new ≡ record seat.old { slots = slice_set seat.old.slots (cell_spot seat.old.view.geometry seat.old.lanes cell) (slot_number seat.old.view.geometry place cell, Some buf) } }
+        ensures seat { seat.new ≡ with_value place cell (Some buf) seat.old }
     {
         let q = self.tables.cell(cell as usize).recv;
         let (first, _after) = self.tables.received(q as usize);
@@ -275,29 +272,29 @@ impl<C: Content> Pair<C> {
         let None = old else { unreachable!() };
     }
 
-    /// Takes the buffers of all cells of partition `q` at a place out of their slots, which are out with the seat, and puts them
-    /// on an empty shelf with room for them, in the order of the cells. It takes no memory.
+    /// Takes the buffers of all cells of partition `q` at a place out of their slots, which are out with the seat,
+    /// and puts them on an empty shelf with room for them, in the order of the cells. It takes no memory.
     pub fn lend_all(&self, seat: &mut RecvSeat<C>, place: u32, q: u32, shelf: &mut Shelf)
         requires pair { IsOf seat.old.table seat.old.view self.now }
         requires place { place < self.now.key.geometry.depth }
         requires out { HasFlags true true q seat.old.lanes }
         requires held { (bufs : List Buf) × HasOut place q (map Some bufs) seat.old }
         requires room { (shelf.old.bufs ≡ []) × (cells_of seat.old.view.geometry q ≤ shelf.old.room) }
-        ensures seat { seat.new ≡ record seat.old { slots = overlaid (spot seat.old.lanes q) (first_slot seat.old.view.geometry place q) (replicate (cells_of seat.old.view.geometry q) None) seat.old.slots } }
+        ensures seat { seat.new ≡ with_values place q (replicate (cells_of seat.old.view.geometry q) None) seat.old }
         ensures shelf { HasOut place q (map Some shelf.new.bufs) seat.old × (shelf.old.room ≤ shelf.new.room) }
     {
         self.lend_row(&mut seat.seat, &seat.lanes, place, q, shelf);
     }
 
-    /// Puts the buffers of a shelf into the slots of all cells of partition `q` at a place, which are out with the seat and
-    /// empty, in the order of the cells. The shelf is empty then.
+    /// Puts the buffers of a shelf into the slots of all cells of partition `q` at a place, which are out with the
+    /// seat and empty, in the order of the cells. The shelf is empty then.
     pub fn put_all(&self, seat: &mut RecvSeat<C>, place: u32, q: u32, shelf: &mut Shelf)
         requires pair { IsOf seat.old.table seat.old.view self.now }
         requires place { place < self.now.key.geometry.depth }
         requires out { HasFlags true true q seat.old.lanes }
         requires full { length shelf.old.bufs ≡ cells_of seat.old.view.geometry q }
         requires held { HasOut place q (replicate (cells_of seat.old.view.geometry q) None) seat.old }
-        ensures seat { seat.new ≡ record seat.old { slots = overlaid (spot seat.old.lanes q) (first_slot seat.old.view.geometry place q) (map Some shelf.old.bufs) seat.old.slots } }
+        ensures seat { seat.new ≡ with_values place q (map Some shelf.old.bufs) seat.old }
         ensures shelf { (shelf.new.bufs ≡ []) × (shelf.new.room ≡ shelf.old.room) }
     {
         self.put_row(&mut seat.seat, &seat.lanes, place, q, shelf);

@@ -1,6 +1,5 @@
-use Rattle.std.proofs.Common.{◌≡◌, ◌⊎◌, ⊎_elim, ℕ, suc, List, length, ◌+◌, ◌-◌, ◌*◌, ◌≤◌, ◌<◌, false, inl, inr, sym, ap, ◌∙◌, arith}
+use Rattle.std.proofs.Common.{◌≡◌, ⊎_elim, ℕ, suc, length, ◌+◌, ◌-◌, ◌*◌, ◌≤◌, false, inl, inr, sym, ap, ◌∙◌, arith}
 use Rattle.std.proofs.lemmas.Bool.{cases_lt}
-use Rattle.slot_rows.specs.declared.lane.Lane.{Lane}
 use Rattle.slot_rows.specs.Lanes.{flagged}
 use Rattle.pair_rule.specs.Parts.{untaken}
 use Rattle.pair_rule.proofs.LanesKept.{untaken_none, untaken_more, untaken_all}
@@ -32,10 +31,10 @@ returns c =
     let low = i.from in let most = i.most in let end = c.loop-at-test.false in let to = c.min-to.ensures in
     let turned : from ≡ 32 * c.args.word = omega arith in
     i.lanes ∙ (⊎_elim
-      (λ (full : n ≡ 32). ap (λ (z : ℕ). untaken from z ls) full)
-      (λ (all : length ls ≤ from + n). untaken_all from n 32 ls all most)
-      (elim (cases_lt n 32) [
-        | inl less ↦ inr (omega arith)
-        | inr more ↦ inl (omega arith)
-      ])
-      ∙ ap (λ (z : ℕ). untaken z 32 ls) turned)
+    (λ (full : n ≡ 32). ap (λ (z : ℕ). untaken from z ls) full)
+    (λ (all : length ls ≤ from + n). untaken_all from n 32 ls all most)
+    (elim (cases_lt n 32) [
+      | inl less ↦ inr (omega arith)
+      | inr more ↦ inl (omega arith)
+    ])
+    ∙ ap (λ (z : ℕ). untaken z 32 ls) turned)

@@ -1,22 +1,12 @@
-use Rattle.std.proofs.Common.{◌≡◌, ℕ, ◌-◌, ◌<◌, true, false, map, ap, ◌∙◌, subst, arith}
-use Rattle.part_geometry.specs.Shape.{IsShape}
-use Rattle.part_geometry.proofs.ReaderFacts.{cells-few}
+use Rattle.std.proofs.Common.{◌≡◌, ℕ, ◌-◌, ◌++◌, ◌∷◌, [], true, false, sym, ◌∙◌, arith}
+use Rattle.std.proofs.lemmas.List.FromFn.{map-range_with_len_more}
 use Rattle.slot_rows.specs.declared.lane.Lane.{Lane}
-use Rattle.pair_core.proofs.StateTables.{table_more}
 use Rattle.pair_rule.specs.Parts.{first_lane}
 use Rattle.pair_rule.proofs.take.lay_lanes.Goals as goal
 
-pub overflow_cast-first : goal.overflow_cast-first
-overflow_cast-first c =
-    let v = c.geometry.ensures.limits in let few = cells-few c.args.tables.now v in
-    let s = v.send_parts.1 in let r = v.recv_parts.1 in let i = c.received-first.ensures.inside in omega arith
-
-pub overflow_cast-after : goal.overflow_cast-after
-overflow_cast-after c =
-    let v = c.geometry.ensures.limits in let few = cells-few c.args.tables.now v in
-    let s = v.send_parts.1 in let r = v.recv_parts.1 in let i = c.received-first.ensures.inside in omega arith
-
 pub loop-q-preserved : goal.loop-q-preserved
 loop-q-preserved c =
-    let lane : ℕ × ℕ → Lane = λ z. record { first = z.0; count = z.1 - z.0; taken = true; out = false } in
-    table_more (first_lane c.args.tables.now) c.loop-q.q (lane c.received-first.result) _ _ c.loop-q.invariant (ap lane c.received-first.ensures.value) c.in_ok-push.ensures.items
+    let t = c.args.tables.now in let q : ℕ = c.loop-q.q in let r = c.received-first.ensures.value in
+    let lane : ◌≡◌ {A = Lane} record { first = c.received-first.result.0; count = c.received-first.result.1 - c.received-first.result.0; taken = true; out = false } (first_lane t q) =
+    λ i. record { first = (r i).0; count = (r i).1 - (r i).0; taken = true; out = false } in
+    record { items = c.in_ok-push.ensures.items ∙ ((λ i. c.loop-q.invariant.items i ++ lane i ∷ []) ∙ sym (map-range_with_len_more (first_lane t) 0 q q (omega arith))) }

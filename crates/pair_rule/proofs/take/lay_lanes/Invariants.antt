@@ -4,4 +4,6 @@ use Rattle.pair_rule.specs.Parts.{first_lane}
 use Rattle.pair_rule.proofs.take.lay_lanes.Given as goal
 
 abbrev pub invariant-loop-q : goal.invariant-loop-q
-invariant-loop-q l = l.lanes.items ≡ map (first_lane l.fn.tables) (range_with_len 0 l.q)
+invariant-loop-q l = record {
+  items : l.lanes.items ≡ map (first_lane l.tables) (range_with_len 0 l.q);
+}

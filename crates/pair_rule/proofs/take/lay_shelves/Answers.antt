@@ -1,14 +1,12 @@
-use Rattle.std.proofs.Common.{◌≡◌, ℕ, ◌-◌, List, [], Option, Some, map, ap, ◌∙◌}
-use Rattle.pair_core.proofs.StateTables.{table_more}
+use Rattle.std.proofs.Common.{◌≡◌, ℕ, ◌-◌, ◌++◌, ◌∷◌, [], Option, Some, ap, sym, ◌∙◌, arith}
+use Rattle.std.proofs.lemmas.List.FromFn.{map-range_with_len_more}
+use Rattle.pair_rule.specs.Seats.{Room}
 use Rattle.pair_rule.specs.Parts.{first_shelf}
-use Rattle.pair_rule.specs.Seats.{Room, cells_of}
 use Rattle.pair_rule.proofs.take.lay_shelves.Goals as goal
 
 pub loop-q-preserved : goal.loop-q-preserved
 loop-q-preserved c =
-    let g = c.args.tables.now in
-    let shelf = c.in_ok-with_room.field-0 in
-    let made = c.in_ok-with_room.ensures in
-    let room : shelf.room ≡ cells_of g c.loop-q.q = made.1 ∙ ap (λ (z : ℕ × ℕ). z.1 - z.0) c.received-first.ensures.value in
-    let is : Some shelf ≡ first_shelf g c.loop-q.q = λ i. Some record { bufs = made.0 i; room = room i } in
-    table_more (first_shelf g) c.loop-q.q (Some shelf) _ _ c.loop-q.invariant is c.in_ok-push.ensures.items
+    let t = c.args.tables.now in let q : ℕ = c.loop-q.q in let r = c.received-first.ensures.value in let made = c.in_ok-with_room.ensures in
+    let room = made.1 ∙ ap (λ z. z.1 - z.0) r in
+    let shelf : ◌≡◌ {A = Option Room} (Some c.in_ok-with_room.field-0) (first_shelf t q) = λ i. Some record { bufs = made.0 i; room = room i } in
+    record { items = c.in_ok-push.ensures.items ∙ ((λ i. c.loop-q.invariant.items i ++ shelf i ∷ []) ∙ sym (map-range_with_len_more (first_shelf t) 0 q q (omega arith))) }

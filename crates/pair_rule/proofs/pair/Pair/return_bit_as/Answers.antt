@@ -3,12 +3,12 @@ use Rattle.part_geometry.specs.Shape.{Shape}
 use Rattle.pair_core.specs.Names.{Return, number}
 use Rattle.pair_core.specs.State.{word_count}
 use Rattle.slot_rows.specs.Lists.{row, rotated}
-use Rattle.slot_rows.specs.Lanes.{wide, place, HasFlags}
+use Rattle.slot_rows.specs.Lanes.{wide, place}
 use Rattle.slot_rows.proofs.Lists.{around_out, head_at, rotated_length}
-use Rattle.slot_rows.proofs.Lanes.{wide_below, spot}
+use Rattle.slot_rows.proofs.Lanes.{wide_below}
 use Rattle.pair_rule.specs.Buf.{Buf}
 use Rattle.pair_rule.specs.Views.{given_back}
-use Rattle.pair_rule.specs.Seats.{AreLanes, cells_of}
+use Rattle.pair_rule.specs.Seats.{cells_of}
 use Rattle.pair_rule.specs.Parts.{first_slot, place_of}
 use Rattle.pair_rule.specs.Steps.{Seat}
 use Rattle.pair_rule.proofs.LanesKept.{lane_spot}
@@ -27,8 +27,8 @@ fetch_or-found-requires g c =
       c.pass_to.ensures.seat.0 ∙ (c.requires.pair.0 ∙ ap (λ v. v.table) (sym c.self.view_is)),
       subst (λ (z : ℕ). word.result < z) (ap word_count p.0 ∙ sym p.2) word.ensures.inside,
       may_give_home g.C.Content.may table.key p.1 table.table_id.slots c.pass_to.new.seat.id me.0 c.requires.live q c.pass_to.new.seat.me h.0 (drop (at + n) me.1 ++ take at me.1)
-        g.X.Numbers.one word.result c.mask-mask.result (c.pass_to.ensures.turned ∙ ap (λ (z : List (ℕ × Option Buf)). (me.0, z)) turned) c.requires.allowed h.1 h.3 c.requires.said
-        (word.ensures.value ∙ ap (λ (z : Shape). number z (Return (q / 32))) p.0) c.mask-mask.ensures,
+          g.X.Numbers.one word.result c.mask-mask.result (c.pass_to.ensures.turned ∙ ap (λ (z : List (ℕ × Option Buf)). (me.0, z)) turned) c.requires.allowed h.1 h.3 c.requires.said
+          (word.ensures.value ∙ ap (λ (z : Shape). number z (Return (q / 32))) p.0) c.mask-mask.ensures,
     )
 
 pub pass_from-requires-clause-here : goal.pass_from-requires-clause-here
@@ -45,5 +45,5 @@ returns-clause-step g c =
     let t = gave none_said q g.X.Numbers.one c.fetch_or-found.result (me.0, rotated p me.1) c.pass_to.new.seat.me c.fetch_or-found.new.seat.me c.pass_to.ensures.turned c.requires.said c.fetch_or-found.ensures.2 in
     let w : ℕ = wide (drop (q + 1) ls) in
     c.pass_from.ensures.turned
-      ∙ (ap (λ (z : Seat). (z.0, rotated w z.1)) t.1
-      ∙ ap (λ (z : List (ℕ × Option Buf)). (given_back q (bit_or c.fetch_or-found.result (2 ^ (q % 32))) me.0, z)) (around_out me.1 p (cells_of me.0.geometry q) w (omega arith)))
+    ∙ (ap (λ (z : Seat). (z.0, rotated w z.1)) t.1
+    ∙ ap (λ (z : List (ℕ × Option Buf)). (given_back q (bit_or c.fetch_or-found.result (2 ^ (q % 32))) me.0, z)) (around_out me.1 p (cells_of me.0.geometry q) w (omega arith)))

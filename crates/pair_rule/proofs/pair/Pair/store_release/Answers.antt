@@ -1,4 +1,4 @@
-use Rattle.std.proofs.Common.{◌≡◌, ap, sym, ◌∙◌, subst, length}
+use Rattle.std.proofs.Common.{◌≡◌, ap, sym, subst, length}
 use Rattle.pair_core.specs.Moves.{StoreRelease}
 use Rattle.pair_rule.specs.Seats.{AreLanes}
 use Rattle.pair_rule.specs.Steps.{MayMake, Seat}
@@ -13,4 +13,4 @@ invariant_of-seat g c =
     let view : me.0 ≡ c.args.seat.now.view = ap (λ v. v.view) c.seat.view_is in
     let h : MayMake me.0 (StoreRelease c.args.round) = subst (λ (z : View). MayMake z (StoreRelease c.args.round)) (sym view) c.requires.allowed in
     subst (λ (z : Seat). (z.0.standing ≡ Seated) × (z.0.number ≡ 1) × AreLanes z.0 (length z.1) c.seat.inside.lanes.items × (length c.seat.inside.shelves.items ≡ z.0.geometry.recv_parts))
-      (sym e.step) (i.0, i.1, release_lanes me.0 c.args.round (length me.1) c.seat.inside.lanes.items h i.2, i.3)
+    (sym e.step) (i.0, i.1, release_lanes me.0 c.args.round (length me.1) c.seat.inside.lanes.items h i.2, i.3)

@@ -1,4 +1,4 @@
-use Rattle.std.proofs.Common.{rules, ◌≡◌, ℕ, ◌+◌, ◌<◌, true, List, [], Option, Some, map, ap, sym, ◌∙◌, subst, length, arith}
+use Rattle.std.proofs.Common.{rules, ◌≡◌, ℕ, ◌+◌, ◌^◌, ◌%◌, bit_or, true, List, [], Some, map, ap, sym, ◌∙◌, subst, length, arith}
 use Rattle.std.proofs.lemmas.List.{length-map}
 use Rattle.pair_core.specs.Moves.{TakePart}
 use Rattle.slot_rows.specs.declared.lane.Lane.{Lane}
@@ -6,6 +6,7 @@ use Rattle.slot_rows.specs.Lists.{spliced}
 use Rattle.slot_rows.specs.Lanes.{place, flagged}
 use Rattle.slot_rows.proofs.Lists.{spliced_length}
 use Rattle.slot_rows.proofs.Lanes.{flagged_length}
+use Rattle.pair_rule.specs.Views.{taken}
 use Rattle.pair_rule.specs.Seats.{AreLanes, cells_of}
 use Rattle.pair_rule.specs.Steps.{MayMake, Seat}
 use Rattle.pair_rule.specs.Parts.{first_slot, place_of}
@@ -28,7 +29,7 @@ invariant_of-seat g c =
     let lanes = written c.seat.inside.lanes.len c.set_flags.new.lanes ls (ap length set' ∙ flagged_length true true q ls) size ∙ set' in
     let t = e.step in let p : ℕ = place c.deref.result.now q in let k : ℕ = first_slot me.0.geometry (place_of me.0) q in
     let long : length (spliced p k (map Some t.0) me.1) ≡ length me.1 + cells_of me.0.geometry q =
-      let s = spliced_length p k (map Some t.0) me.1 in let m = length-map t.0 Some in let n = t.2.size in omega arith in
+    let s = spliced_length p k (map Some t.0) me.1 in let m = length-map t.0 Some in let n = t.2.size in omega arith in
     subst (λ (z : Seat × List Lane). (z.0.0.standing ≡ Seated) × (z.0.0.number ≡ 1) × AreLanes z.0.0 (length z.0.1) z.1 × (length c.seat.inside.shelves.items ≡ z.0.0.geometry.recv_parts))
-      (λ j. (sym t.3 j, sym lanes j))
-      (i.0, i.1, subst (λ (z : ℕ). AreLanes _ z (flagged true true q ls)) (sym long) (taken_lanes me.0 q (length me.1) c.take_bit_as-found.result ls a t.1 h e.word f), i.3)
+    (λ j. (sym t.3 j, sym lanes j))
+    (i.0, i.1, subst (λ (z : ℕ). AreLanes (taken q t.1 (bit_or c.take_bit_as-found.result (2 ^ (q % 32))) me.0) z (flagged true true q ls)) (sym long) (taken_lanes me.0 q (length me.1) c.take_bit_as-found.result ls a t.1 h e.word f), i.3)

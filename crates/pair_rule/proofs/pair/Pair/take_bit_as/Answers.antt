@@ -1,4 +1,4 @@
-use Rattle.std.proofs.Common.{◌≡◌, ℕ, List, Option, Some, map, length, drop, ◌+◌, ◌-◌, ◌<◌, ◌++◌, ◌^◌, ◌%◌, ◌/◌, bit_or, sym, ap, ◌∙◌, subst, arith}
+use Rattle.std.proofs.Common.{◌≡◌, ℕ, List, Option, Some, map, length, drop, ◌+◌, ◌-◌, ◌<◌, ◌^◌, ◌%◌, ◌/◌, bit_or, sym, ap, ◌∙◌, subst, arith}
 use Rattle.part_geometry.specs.Shape.{Shape}
 use Rattle.pair_core.specs.Names.{Take, number}
 use Rattle.pair_core.specs.State.{word_count}
@@ -29,9 +29,9 @@ fetch_or-found-requires g c =
       c.pass_to.ensures.seat.0 ∙ (c.requires.pair.0 ∙ ap (λ v. v.table) (sym c.self.view_is)),
       subst (λ (z : ℕ). word.result < z) (ap word_count p.0 ∙ sym p.2) word.ensures.inside,
       may_take_out g.C.Content.may table.key p.1 table.table_id.slots c.pass_to.new.seat.id me.0 c.requires.live c.args.q c.pass_to.new.seat.me (rotated (place c.args.lanes.now c.args.q) me.1)
-        g.X.Finds.may g.X.Finds.part word.result c.mask-mask.result c.pass_to.ensures.turned c.requires.allowed
-        (λ k i b h. c.requires.may k i b (subst (λ z. g.C.Content.may z k i b) (sym tag) h)) c.requires.said
-        (word.ensures.value ∙ ap (λ (z : Shape). number z (Take (c.args.q / 32))) p.0) c.mask-mask.ensures,
+          g.X.Finds.may g.X.Finds.part word.result c.mask-mask.result c.pass_to.ensures.turned c.requires.allowed
+          (λ k i b h. c.requires.may k i b (subst (λ z. g.C.Content.may z k i b) (sym tag) h)) c.requires.said
+          (word.ensures.value ∙ ap (λ (z : Shape). number z (Take (c.args.q / 32))) p.0) c.mask-mask.ensures,
     )
 
 pub turn_times-requires : goal.turn_times-requires
@@ -70,7 +70,7 @@ returns-clause-step g c =
       t.2,
       t.3,
       c.pass_from.ensures.turned
-        ∙ (ap (λ (z : Seat). (z.0, rotated w z.1)) c.turn_times.ensures.turned
-        ∙ (ap (λ (z : Seat). (z.0, rotated w (rotated count z.1))) t.4
-        ∙ ap (λ (z : List (ℕ × Option Buf)). (taken q t.2 (bit_or c.fetch_or-found.result (2 ^ (q % 32))) me.0, z)) (put_in me.1 R p count w size gap))),
+          ∙ (ap (λ (z : Seat). (z.0, rotated w z.1)) c.turn_times.ensures.turned
+          ∙ (ap (λ (z : Seat). (z.0, rotated w (rotated count z.1))) t.4
+          ∙ ap (λ (z : List (ℕ × Option Buf)). (taken q t.2 (bit_or c.fetch_or-found.result (2 ^ (q % 32))) me.0, z)) (put_in me.1 R p count w size gap))),
     )
