@@ -2,7 +2,6 @@
 #![tactic(auto)]
 
 mod buf;
-mod close;
 mod content;
 mod create;
 mod first;
@@ -22,7 +21,6 @@ mod view;
 mod words;
 
 pub use buf::CellBuf;
-pub use close::Closed;
 pub use content::{AnyBytes, Content};
 pub use looks::Seated;
 pub use pair::Pair;
