@@ -2,6 +2,7 @@
 #![tactic(auto)]
 
 mod buf;
+mod close;
 mod content;
 mod create;
 mod first;
@@ -21,6 +22,7 @@ mod view;
 mod words;
 
 pub use buf::CellBuf;
+pub use close::Closed;
 pub use content::{AnyBytes, Content};
 pub use looks::Seated;
 pub use pair::Pair;
