@@ -1,5 +1,5 @@
--- What a look tells: the word found is later than the one seen, the seat's own marks stand in it, and a piece that was full
--- in the round of the seat's side is full still.
+-- What a look tells: the word found is later than the one seen, the seat's own marks stand in it, a piece that was full in the
+-- round of the seat's side is full still, and of its claim words the active send side knows that they are open.
 use Rattle.std.proofs.Common.{◌≡◌, ◌⊎◌, ℕ, ◌+◌, ◌*◌, ◌%◌, ◌/◌, ◌<◌, ◌≤◌, Bool, List, get_or, Contains, Some, None, refl, sym, ap, ◌∙◌, subst, arith}
 use Rattle.gate_word.specs.Words.{round_in}
 use Rattle.gate_word.specs.Order.{IsLater}
@@ -7,6 +7,7 @@ use Rattle.part_geometry.specs.Shape.{Shape, IsShape}
 use Rattle.part_geometry.specs.Pieces.{pieces, Touches}
 use Rattle.pair_core.specs.Words.{bit, next}
 use Rattle.pair_core.specs.Names.{Name, Claim, Release, Take, Return, Piece, Fits, claim_words}
+use Rattle.pair_core.specs.Core.{times}
 use Rattle.pair_core.specs.Reading.{part_bit, IsFull}
 use Rattle.pair_core.specs.Moves.{IsSendActive}
 use Rattle.pair_core.specs.Sound.{Sound}
@@ -15,8 +16,8 @@ use Rattle.pair_core.specs.declared.view.RecvSide.{RecvSide}
 use Rattle.pair_core.specs.declared.view.Mark.{Mark}
 use Rattle.pair_core.proofs.Facts.{bit_lt, later_bit}
 use Rattle.pair_rule.specs.Rule.{Shown, Agrees}
-use Rattle.pair_rule.specs.Views.{seen}
-use Rattle.pair_rule.specs.Told.{HasMarks, IsFullStill, Learns}
+use Rattle.pair_rule.specs.Views.{seen, saw}
+use Rattle.pair_rule.specs.Told.{HasMarks, IsFullStill, AreOpen, KnowsMarks, Knows, Learns}
 use Rattle.pair_rule.specs.declared.view.View.{View}
 use Rattle.pair_rule.proofs.Core.{CoreLaws}
 use Rattle.pair_rule.proofs.Marks.{times_in}
@@ -67,18 +68,48 @@ module _ (c : Shown) (alone : Bool) (markers watchers : ℕ) (seat : ℕ → ℕ
   full_still (Take t) fits = tt
   full_still (Return t) fits = tt
 
-  learns_at : (x : Name) → Fits d.geometry x → Learns d x (c.word x)
-  learns_at x fits = record {
+  knows_at : Knows d
+  knows_at = record {
+    opened = opened;
+    known = known;
+  } where
+    opened : d.number ≡ 0 → IsSendActive d.geometry d.send → AreOpen d
+    opened zeroth active b there =
+        let same : d.send ≡ c.send = a.send_is zeroth in
+        let open' = L.facts.seen_open c b sound (subst (IsSendActive d.geometry) same active) there in
+        let word = seen_of d.geometry v c alone markers watchers seat id d a 0 zeroth (Claim b) there in
+        (ap round_in word ∙ (open'.0 ∙ sym (ap (λ (z : SendSide). z.round) same)), ap (λ (z : ℕ). bit z 32) word ∙ open'.1)
+
+    known : d.number ≡ 0 → IsSendActive d.geometry d.send → d.send.markers ≡ 0 → KnowsMarks d
+    known zeroth active none p inside claimed =
+        let same : d.send ≡ c.send = a.send_is zeroth in
+        let there : p / 32 < claim_words d.geometry = word_there p d.geometry.send_parts inside in
+        let word = seen_of d.geometry v c alone markers watchers seat id d a 0 zeroth (Claim (p / 32)) there in
+        let marks : d.marks ≡ c.marks 0 = a.marks_is ∙ ap c.marks zeroth in
+        let one = L.facts.seen_marked c p sound (sym (ap (λ (z : SendSide). z.markers) same) ∙ none) (subst (IsSendActive d.geometry) same active) inside
+          (ap (λ (z : ℕ). bit z (p % 32)) (sym word) ∙ claimed) in
+        (λ i. times (same i).round p (marks i)) ∙ one
+
+  learns_at : (x : Name) → Fits d.geometry x → Knows (saw x (c.word x) d) → Learns d x (c.word x)
+  learns_at x fits after = record {
     later = subst (λ (z : ℕ). IsLater z (c.word x)) (sym (seen_same d.geometry v c alone markers watchers seat id d a x fits))
         (sound.seen.present d.number x (unspent d.geometry v c alone markers watchers seat id d a d.number refl) fits);
     marks = has_marks x;
     full = full_still x fits;
+    after = after;
   }
 
 -- the same where the table has the view's geometry
 pub learns : (g : Shape) → IsShape g → CoreLaws g → (c : Shown) (alone : Bool) (markers watchers : ℕ) (seat : ℕ → ℕ) (id : ℕ) (d : View) → Sound g c → Agrees g c alone markers watchers seat id d
-    → (x : Name) → Fits g x → Learns d x (c.word x)
+    → (x : Name) → Fits g x → Knows (saw x (c.word x) d) → Learns d x (c.word x)
 learns g v L c alone markers watchers seat id d sound a x fits =
     let here : g ≡ d.geometry = sym a.geometry in
     learns_at c alone markers watchers seat id d (subst IsShape here v) (subst CoreLaws here L) (subst (λ (z : Shape). Sound z c) here sound)
       (subst (λ (z : Shape). Agrees z c alone markers watchers seat id d) here a) x (subst (λ (z : Shape). Fits z x) here fits)
+
+pub knows : (g : Shape) → IsShape g → CoreLaws g → (c : Shown) (alone : Bool) (markers watchers : ℕ) (seat : ℕ → ℕ) (id : ℕ) (d : View) → Sound g c → Agrees g c alone markers watchers seat id d
+    → Knows d
+knows g v L c alone markers watchers seat id d sound a =
+    let here : g ≡ d.geometry = sym a.geometry in
+    knows_at c alone markers watchers seat id d (subst IsShape here v) (subst CoreLaws here L) (subst (λ (z : Shape). Sound z c) here sound)
+      (subst (λ (z : Shape). Agrees z c alone markers watchers seat id d) here a)

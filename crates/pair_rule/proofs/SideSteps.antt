@@ -3,6 +3,8 @@ use Rattle.std.proofs.Common.{◌≡◌, ◌≢◌, ◌⊎◌, inl, inr, ℕ, su
 use mathlib.Core.Option.{some}
 use mathlib.Core.Option as maybe
 use lib.ListN.{get_elem?}
+use Rattle.atomic_table.proofs.Lists.{set_here}
+use Rattle.slot_rows.proofs.Lists.{at_split}
 use Rattle.atomic_table.specs.Table.{State, Me, Step, step, Act, keeps, Allows}
 use Rattle.part_geometry.specs.Shape.{Shape, IsShape}
 use Rattle.part_geometry.specs.Pieces.{pieces}
@@ -15,7 +17,7 @@ use Rattle.pair_core.specs.declared.view.RecvSide.{RecvSide}
 use Rattle.pair_rule.specs.Buf.{Buf}
 use Rattle.pair_rule.specs.Rule.{At, Shown, Rule, Holds}
 use Rattle.pair_rule.specs.Views as view
-use Rattle.pair_rule.specs.Told.{Learns}
+use Rattle.pair_rule.specs.Told.{Knows, Learns}
 use Rattle.pair_rule.specs.Steps.{MayMake, goes}
 use Rattle.pair_rule.specs.declared.view.View.{View}
 use Rattle.pair_rule.specs.declared.view.Standing.TheVariants.{Seated}
@@ -23,7 +25,7 @@ use Rattle.pair_rule.specs.declared.rule.Key.{Key}
 use Rattle.pair_rule.proofs.Core.{CoreLaws}
 use Rattle.pair_rule.proofs.Bridge.{Held}
 use Rattle.pair_rule.proofs.Allowed.{place_there}
-use Rattle.pair_rule.proofs.Learning.{learns}
+use Rattle.pair_rule.proofs.Learning.{learns, knows}
 use Rattle.pair_rule.proofs.Sides.{stepped_to, sends, receives, looks}
 
 module _ {T : Type 0} (may : T → ℕ → ℕ → ℕ → Type 0) (key : Key T) (L : CoreLaws key.geometry) where
@@ -102,10 +104,17 @@ module _ {T : Type 0} (may : T → ℕ → ℕ → ℕ → Type 0) (key : Key T)
     look_leads : (m : Move (List ℕ)) (x : Name) (v : ℕ) → v ≡ get_or s.words (number key.geometry x) 0 → Fits key.geometry x → MayMake d m
         → after key.geometry r.core m ≡ loads d.number x r.core → ((n p i : ℕ) → m ≢ LayPiece n p i)
         → Held may key (stepped_to may key L s x v id (view.saw x v d)) (after key.geometry r.core m) × Learns d x v
-    look_leads m x v found fits h is other = let a = r.seats id d at live in (
-        looks may key L s r id d m x v at live fits h found is other,
-        subst (Learns d x) (sym (found ∙ r.words x fits)) (learns key.geometry r.shape L r.core r.alone r.markers r.watchers r.seat id d r.sound a x fits),
-      )
+    look_leads m x v found fits h is other =
+        let a = r.seats id d at live in
+        let led = looks may key L s r id d m x v at live fits h found is other in
+        let r' = led.0 in let d' : View = view.saw x v d in
+        let a' = r'.seats id d' (set_here s.views id d' (at_split s.views id d at).0) live in
+        let word : r.core.word x ≡ v = sym (found ∙ r.words x fits) in
+        let after' : Knows d' = knows key.geometry r'.shape L r'.core r'.alone r'.markers r'.watchers r'.seat id d' r'.sound a' in (
+          led,
+          subst (Learns d x) word (learns key.geometry r.shape L r.core r.alone r.markers r.watchers r.seat id d r.sound a x fits
+            (subst (λ (z : ℕ). Knows (view.saw x z d)) (sym word) after')),
+        )
 
     entered : (n : ℕ) (x : Name) → d.number ≡ n → loads n x (enters n r.core) ≡ loads d.number x r.core
     entered n x e = let a = r.seats id d at live in
