@@ -1,4 +1,3 @@
-pub mod Walks
 pub mod Firsts
 pub mod Needs
 pub mod Counts

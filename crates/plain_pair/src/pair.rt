@@ -1,6 +1,7 @@
 //! The object.
 
 ghost use Rattle.std.specs.Prelude.{◌≡◌, ◌<◌, ◌≤◌, None, false, length, IfOk};
+ghost use Rattle.part_geometry.specs.declared.TheConstants.{LAST_ROUND};
 ghost use Rattle.plain_pair.specs.Moves.{start_answer};
 
 use crate::answers::{PlainLook, PlainRefusal, PlainSendTest, PlainTake};
@@ -9,12 +10,9 @@ use crate::buffer::{Buffer, put_at, take_at, zero_buffers};
 use crate::flags::{add, all_missing, clear, least_without, none_of, pieces_out, reset};
 use crate::marking::{count_down, first_missing, store};
 use crate::tables::Tables;
-use part_geometry::{Geometry, Marked, RecvTest, StartFault};
+use part_geometry::{Geometry, LAST_ROUND, Marked, RecvTest, StartFault};
 use std::alloc::{AllocError, Global};
 use std::marker::Model;
-
-/// The last round of a side.
-pub const LAST_ROUND: u32 = 2_147_483_647;
 
 /// A partitioned send and the receive that it is paired with, used by one thread. Contracts see what it keeps, and
 /// say what each call does by the records of rounds that it stands for.
@@ -60,7 +58,7 @@ pub struct PlainClosed {
 
 /// The round after the one that a side is in.
 fn next_round(active: bool, round: u32) -> Result<u32, StartFault>
-    requires { round ≤ 2147483647 }
+    requires { round ≤ LAST_ROUND }
     ensures { result ≡ start_answer active round }
 {
     if active {

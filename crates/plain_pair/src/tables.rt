@@ -8,7 +8,7 @@ ghost use Rattle.part_geometry.specs.Pieces.{pieces, need_count};
 ghost use Rattle.part_geometry.specs.Walk.{cell_at};
 ghost use Rattle.plain_pair.specs.Tables.{AreCellsOf, AreFirsts, ArePiecesOf, ArePiecesOver};
 
-use part_geometry::{Cell, CellWalk, Geometry};
+use part_geometry::{Cell, Geometry, all_cells};
 use std::alloc::{AllocError, Global};
 use std::marker::Model;
 
@@ -32,18 +32,6 @@ impl Row {
             Row::Piece => cell.piece,
         }
     }
-}
-
-/// The cells of a geometry, in order.
-fn all_cells(alloc: Global, geometry: Geometry) -> Result<Vec<Cell>, AllocError>
-    ensures cells { IfOk result (λ all. all.items ≡ map (cell_at geometry) (range_with_len 0 (cells geometry))) }
-{
-    let mut all = Vec::new(alloc);
-    let mut walk = CellWalk::new(geometry);
-    while let Some(cell) = walk.advance() {
-        all.push(cell)?;
-    }
-    Ok(all)
 }
 
 /// The first cell of each number of a row, and behind them the number of cells.
