@@ -21,3 +21,4 @@ pub mod TestAnswers
 pub mod Growth
 pub mod ManyMarks
 pub mod ManyLawFacts
+pub mod Reaching

@@ -1,16 +1,15 @@
 -- The pieces over a receive partition, and the least of them that isn't out.
-use Rattle.std.proofs.Common.{◌≡◌, ◌⊎◌, ℕ, zero, suc, zero-add, add-zero, ◌+◌, ◌-◌, ◌<◌, ◌≤◌, Bool, true, false, cond, nat_le, Some, None, find, refl, ap, sym, ◌∙◌, arith, inl, inr}
+use Rattle.std.proofs.Common.{◌≡◌, ◌⊎◌, ℕ, zero, suc, zero-add, add-zero, ◌+◌, ◌-◌, ◌<◌, ◌≤◌, Bool, true, false, cond, Some, None, find, refl, ap, sym, ◌∙◌, arith, inl, inr}
 use Rattle.std.specs.List.{range_with_len}
 use Rattle.std.proofs.Math.Nat.{suc-add}
-use Rattle.std.proofs.lemmas.Bool.{cases_lt, cases_Bool, le-leb, leb-true, and_from, and_parts, false_from_ne_true}
+use Rattle.std.proofs.lemmas.Bool.{cases_lt, cases_Bool, false_from_ne_true}
 use Rattle.part_geometry.specs.Shape.{Shape, IsShape, send_total}
-use Rattle.part_geometry.specs.Cells.{cells, start, recv_of}
+use Rattle.part_geometry.specs.Cells.{cells, start}
 use Rattle.part_geometry.specs.Pieces.{pieces, piece_of, first_cell, last_cell, is_over}
 use Rattle.part_geometry.proofs.Bounds.{start-zero, start-last}
-use Rattle.part_geometry.proofs.Parts.{recv-mono}
 use Rattle.part_geometry.proofs.PieceFacts.{piece-ordered, piece_of-inside, piece_of-holds}
 use Rattle.part_geometry.proofs.Overs.{over-cell, cell-over}
-use Rattle.part_geometry.proofs.Rows.{row-le, row-below, row-hits, piece-row, recv-row}
+use Rattle.part_geometry.proofs.Rows.{row-le, row-below, row-hits, piece-row}
 use Rattle.plain_pair.specs.declared.tables.Row.TheVariants.{Recv}
 use Rattle.plain_pair.specs.Tables.{AreCellsOf, ArePiecesOver}
 

@@ -12,5 +12,5 @@ mod tables;
 
 pub use answers::{PlainLook, PlainRefusal, PlainSendTest, PlainStop, PlainTake};
 pub use arrival::PlainArrival;
-pub use many::marks_laws;
+pub use many::{marks_laws, take_laws};
 pub use pair::{PlainClosed, PlainPair};

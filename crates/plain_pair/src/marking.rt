@@ -41,6 +41,7 @@ pub(crate) fn store(tables: &Tables, buffers: &mut Vec<Buffer>, base: usize, p: 
     ensures { Stores tables.now base (p * tables.now.send_bytes) ((p + 1) * tables.now.send_bytes) bytes.now
         buffers.old.items buffers.new.items }
 {
+    // The geometry's limits, for the proof.
     let _geometry = tables.geometry();
     let (first, end) = tables.send_cells(p);
     let low = tables.cell(first).start as usize;
