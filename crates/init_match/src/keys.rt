@@ -1,33 +1,21 @@
 //! Initialisations, and the slots of each key.
 
 ghost use Rattle.std.specs.Prelude.{◌≡◌, ◌<◌, ◌&&◌, [], length, slice_index_or, slice_set, IfOk, OnErr, OnOk, Some};
-ghost use Rattle.init_match.specs.Calls.{same_key, same_side};
+ghost use Rattle.init_match.specs.Calls.{facing, same_key, same_side};
 ghost use Rattle.init_match.specs.Slots.{no_slots, with_slot};
 
+use part_geometry::Side;
 use std::alloc::{AllocError, Global};
 use std::collections::BTreeMap;
 use std::marker::Model;
 
-/// Which side an initialisation is of.
-#[derive(Clone, Copy, Debug, PartialEq, Eq)]
-pub(crate) enum Side {
-    /// The sender's (`MPI_Psend_init`).
-    Send,
-    /// The receiver's (`MPI_Precv_init`).
-    Recv,
-}
-
-impl Side {
-    ghost use Rattle.init_match.specs.Calls.{facing};
-
-    /// The other side.
-    pub(crate) fn facing(self) -> Side
-        ensures { result ≡ facing self }
-    {
-        match self {
-            Side::Send => Side::Recv,
-            Side::Recv => Side::Send,
-        }
+/// The other side.
+pub(crate) fn facing(side: Side) -> Side
+    ensures { result ≡ facing side }
+{
+    match side {
+        Side::SendSide => Side::RecvSide,
+        Side::RecvSide => Side::SendSide,
     }
 }
 
@@ -110,8 +98,8 @@ impl KeySlots {
         ensures { result.now ≡ side_slots side self.now }
     {
         match side {
-            Side::Send => self.sends.as_slice(),
-            Side::Recv => self.recvs.as_slice(),
+            Side::SendSide => self.sends.as_slice(),
+            Side::RecvSide => self.recvs.as_slice(),
         }
     }
 
@@ -121,8 +109,8 @@ impl KeySlots {
         ensures err { OnErr result (self.new ≡ self.old) }
     {
         match side {
-            Side::Send => self.sends.push(slot)?,
-            Side::Recv => self.recvs.push(slot)?,
+            Side::SendSide => self.sends.push(slot)?,
+            Side::RecvSide => self.recvs.push(slot)?,
         }
         Ok(())
     }

@@ -11,8 +11,8 @@ use Rattle.init_match.specs.declared.answers.Matched.{Matched}
 use Rattle.init_match.specs.Calls.{total}
 use Rattle.init_match.specs.Matching.{completed_by, pairs_of}
 use Rattle.init_match.specs.World.{WorldState, matched_as, matched_pairs, send_call, recv_call, number_fault, size_fault, volume}
-use Rattle.part_api.specs.declared.request.Side.{Side}
-use Rattle.part_api.specs.declared.request.Side.TheVariants.{SendSide, RecvSide}
+use Rattle.part_geometry.specs.declared.answers.Side.{Side}
+use Rattle.part_geometry.specs.declared.answers.Side.TheVariants.{SendSide, RecvSide}
 use Rattle.script_text.specs.declared.call.Action.{Action}
 use Rattle.script_text.specs.declared.call.Call.{Call}
 use Rattle.script_text.specs.declared.call.Call.TheVariants.{Send, Recv, Request}
