@@ -21,7 +21,7 @@ pub(crate) fn facing(side: Side) -> Side
 
 /// What both initialisations of a pair have in common: the communicator, the ranks of the sender and the receiver,
 /// and the tag (MPI 4.0, 4.2.1).
-#[derive(Clone, Copy, Debug, PartialEq, Eq, PartialOrd, Ord)]
+#[derive(Clone, Copy, PartialEq, Eq, PartialOrd, Ord)]
 pub(crate) struct Key {
     pub(crate) comm: u32,
     pub(crate) from: u32,
@@ -30,7 +30,7 @@ pub(crate) struct Key {
 }
 
 /// An initialisation of one side: how many partitions it has, and how many bytes a partition has.
-#[derive(Clone, Copy, Debug, PartialEq, Eq)]
+#[derive(Clone, Copy)]
 pub(crate) struct Call {
     pub(crate) side: Side,
     pub(crate) key: Key,

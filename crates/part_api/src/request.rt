@@ -23,7 +23,7 @@ pub enum ReqState {
 }
 
 /// A persistent request of a partitioned send or receive. Contracts see its side and its state.
-#[derive(Debug, Drop)]
+#[derive(Drop)]
 pub struct Request {
     side: Side,
     state: ReqState,

@@ -8,7 +8,7 @@ use std::marker::Model;
 
 /// The bytes of one receive partition in one round, owned by whoever took them. Contracts see the round, the
 /// partition and the bytes.
-#[derive(Debug, Drop)]
+#[derive(Drop)]
 pub struct PlainArrival {
     round: u32,
     partition: u32,

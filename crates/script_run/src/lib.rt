@@ -10,6 +10,3 @@ mod texts;
 
 pub use run::run_script;
 pub use script_text::{Script, ScriptFault, parse_script};
-
-#[cfg(test)]
-mod tests;
