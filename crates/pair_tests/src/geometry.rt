@@ -17,8 +17,14 @@ fn new_names_the_first_fault(rt: HostRuntime) {
         ([0, 4, 2, 6, 1, 1], Some(GeometryFault::BadParts)),
         ([1025, 1, 1025, 1, 1, 1], Some(GeometryFault::BadParts)),
         ([3, 0, 2, 6, 1, 1], Some(GeometryFault::BadBytes)),
-        ([1, 1_048_577, 1, 1_048_577, 1, 1], Some(GeometryFault::BadBytes)),
-        ([32, 1_048_576, 32, 1_048_576, 1, 1], Some(GeometryFault::TooLong)),
+        (
+            [1, 1_048_577, 1, 1_048_577, 1, 1],
+            Some(GeometryFault::BadBytes),
+        ),
+        (
+            [32, 1_048_576, 32, 1_048_576, 1, 1],
+            Some(GeometryFault::TooLong),
+        ),
         ([3, 4, 2, 5, 1, 1], Some(mismatch)),
         ([3, 4, 2, 6, 0, 1], Some(GeometryFault::BadGrain)),
         ([3, 4, 2, 6, 16_777_217, 1], Some(GeometryFault::BadGrain)),

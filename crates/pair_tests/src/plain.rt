@@ -25,10 +25,7 @@ fn part(p: u32) -> &'static [u8] {
 
 #[test]
 fn pieces_go_out_with_their_last_mark(rt: HostRuntime) {
-    let cases = [
-        (1, [(2, 1), (0, 1), (1, 2)]),
-        (6, [(0, 0), (1, 1), (2, 1)]),
-    ];
+    let cases = [(1, [(2, 1), (0, 1), (1, 2)]), (6, [(0, 0), (1, 1), (2, 1)])];
     for (grain, marks) in cases {
         let mut pair = started(&rt, grain, 1);
         for (partition, sent) in marks {
@@ -37,7 +34,11 @@ fn pieces_go_out_with_their_last_mark(rt: HostRuntime) {
                 partition,
                 sent,
             };
-            assert_eq!(rt; pair.pready(1, partition, part(partition)), Ok(wanted), "grain {grain}");
+            assert_eq!(rt;
+                pair.pready(1, partition, part(partition)),
+                Ok(wanted),
+                "grain {grain}"
+            );
         }
     }
 }
@@ -64,14 +65,30 @@ fn a_refused_mark_changes_nothing(rt: HostRuntime) {
 fn a_look_and_a_take_wait_for_the_pieces_over_a_partition(rt: HostRuntime) {
     let mut pair = started(&rt, 1, 1);
     let marks = [
-        (0, PlainLook::NotYet { piece: 1 }, Some(PlainTake::NotYet { piece: 1 })),
-        (2, PlainLook::NotYet { piece: 1 }, Some(PlainTake::NotYet { piece: 1 })),
+        (
+            0,
+            PlainLook::NotYet { piece: 1 },
+            Some(PlainTake::NotYet { piece: 1 }),
+        ),
+        (
+            2,
+            PlainLook::NotYet { piece: 1 },
+            Some(PlainTake::NotYet { piece: 1 }),
+        ),
         (1, PlainLook::Arrived, None),
-        (1, PlainLook::Arrived, Some(PlainTake::AlreadyTaken { round: 1 })),
+        (
+            1,
+            PlainLook::Arrived,
+            Some(PlainTake::AlreadyTaken { round: 1 }),
+        ),
     ];
     for (p, look, refused) in marks {
         let marked = pair.pready(1, p, part(p)).is_ok();
-        assert_eq!(rt; (pair.parrived(0), pair.take(0).err()), (look, refused), "{p} {marked}");
+        assert_eq!(rt;
+            (pair.parrived(0), pair.take(0).err()),
+            (look, refused),
+            "{p} {marked}"
+        );
     }
     let wanted = (PlainLook::BadPartition, Some(PlainTake::BadPartition));
     assert_eq!(rt; (pair.parrived(2), pair.take(2).err()), wanted);
@@ -89,13 +106,24 @@ fn a_look_and_a_take_wait_for_the_pieces_over_a_partition(rt: HostRuntime) {
 fn a_receiver_ahead_of_the_sender_waits(rt: HostRuntime) {
     let geometry = Geometry::new(3, 4, 2, 6, 1, 1).expect(&rt, "within the limits");
     let mut pair = PlainPair::create(rt.alloc(), geometry).expect(&rt, "enough memory");
-    assert_eq!(rt; (pair.parrived(1), pair.take(1).err()), (PlainLook::Idle, Some(PlainTake::Idle)));
+    assert_eq!(rt;
+        (pair.parrived(1), pair.take(1).err()),
+        (PlainLook::Idle, Some(PlainTake::Idle))
+    );
     assert_eq!(rt; pair.start_recv(), Ok(1));
     assert_eq!(rt; pair.parrived(1), PlainLook::NotYet { piece: 2 });
     let active = StartFault::AlreadyActive { round: 1 };
-    assert_eq!(rt; (pair.start_send(), pair.start_recv(), pair.start_send()), (Ok(1), Err(active), Err(active)));
+    assert_eq!(rt;
+        (pair.start_send(), pair.start_recv(), pair.start_send()),
+        (Ok(1), Err(active), Err(active))
+    );
     let closed = pair.close();
-    let got = (closed.send_round, closed.recv_round, closed.released, closed.pieces_out);
+    let got = (
+        closed.send_round,
+        closed.recv_round,
+        closed.released,
+        closed.pieces_out,
+    );
     assert_eq!(rt; got, (1, 1, 0, 0));
 }
 
@@ -108,7 +136,10 @@ fn a_released_round_makes_room_for_the_next(rt: HostRuntime) {
     }
     let tests = [RecvTest::Untaken { q: 0 }, RecvTest::Untaken { q: 1 }];
     for (q, test) in tests.iter().enumerate() {
-        assert_eq!(rt; (pair.test_send(), pair.test_recv()), (PlainSendTest::Unreleased { released: 0 }, *test));
+        assert_eq!(rt;
+            (pair.test_send(), pair.test_recv()),
+            (PlainSendTest::Unreleased { released: 0 }, *test)
+        );
         let taken = pair.take(q as u32).expect(&rt, "arrived");
         if q == 1 {
             assert_eq!(rt; pair.test_recv(), RecvTest::Out { q: 1 });
@@ -168,14 +199,20 @@ fn a_bad_range_or_list_marks_nothing(rt: HostRuntime) {
         (0, 3, b"e".as_slice(), PlainRefusal::BadLength),
     ];
     for (low, high, bytes, cause) in ranges {
-        assert_eq!(rt; pair.pready_range(1, low, high, bytes), Err(PlainStop { at: 0, cause }));
+        assert_eq!(rt;
+            pair.pready_range(1, low, high, bytes),
+            Err(PlainStop { at: 0, cause })
+        );
     }
     let lists = [
         (4, b"e".as_slice(), PlainRefusal::BadPartition),
         (3, b"".as_slice(), PlainRefusal::BadLength),
     ];
     for (p, bytes, cause) in lists {
-        assert_eq!(rt; pair.pready_list(1, &[p], bytes), Err(PlainStop { at: 0, cause }));
+        assert_eq!(rt;
+            pair.pready_list(1, &[p], bytes),
+            Err(PlainStop { at: 0, cause })
+        );
     }
     let none = Marks {
         round: 7,

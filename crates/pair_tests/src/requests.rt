@@ -86,12 +86,7 @@ fn a_round_completes_both_requests(rt: HostRuntime) {
     let complete = ReqState::Complete { round: 1 };
     assert_eq!(rt;
         tested,
-        (
-            Ok(RecvTest::Done),
-            complete,
-            Ok(PlainSendTest::Done),
-            Ok(2)
-        )
+        (Ok(RecvTest::Done), complete, Ok(PlainSendTest::Done), Ok(2))
     );
     let freed = (
         recv.free(),

@@ -66,7 +66,10 @@ fn two_rounds_of_1024_by_1023_partitions(rt: HostRuntime) {
     let mut pair = pair_of(&rt, [1024, 1023, 1023, 1024, 1, 4]);
     for round in [1, 2] {
         let bytes = message(rt.alloc(), 1_047_552, round).expect(&rt, "enough memory");
-        assert_eq!(rt; (pair.start_send(), pair.start_recv()), (Ok(round), Ok(round)));
+        assert_eq!(rt;
+            (pair.start_send(), pair.start_recv()),
+            (Ok(round), Ok(round))
+        );
         let sent = mark_all(&mut pair, round, 1024, 1023, &bytes);
         let sum = take_all(&mut pair, 1023);
         assert_eq!(rt; (sent, sum), (Some(2046), Some(checksum(0, &bytes))));
