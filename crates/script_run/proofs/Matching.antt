@@ -241,7 +241,8 @@ both : (n a b : ℕ) (rs : List Known) (i : ℕ) (r : Known) → slice_get (matc
 both n a b rs i r got =
     let second = get_matched n b (matched_at n a rs) i r got in
     let first = get_matched n a rs i second.old second.there in (
-      first.old, first.there,
+      first.old,
+      first.there,
       elim second.is [
         | inl here ↦ inl (inr (sym here.0), here.1)
         | inr other ↦ elim first.is [
@@ -316,6 +317,7 @@ some_matched st c name side p slots h is =
         back [] y n x inside got = absurd (omega arith)
         back (z ∷ xs) y zero x inside got = got
         back (z ∷ xs) y (suc n) x inside got = back xs y n x (omega arith) got
+
     not_new : (w : WorldState) (c : initial.Call) (p : matching.Pair) (n k slot : ℕ) → (i : IsIn (grown w c) slot n) → completed_by w.calls c ≡ Some p → k ≡ length (matched_pairs w)
         → slice_get (matched_pairs (grown w c)) k ≡ Some (matched_as w.grain w.depth p) → k ≤ n → p.send.0 ≢ slot → p.recv.0 ≢ slot → ⊥
     not_new w c p n k slot i is count here after not_send not_recv =
@@ -335,6 +337,7 @@ joined_matched st c name side slots h = by_pair (completed_by st.world.calls c) 
   where
     count : length st.pairs ≡ length (matched_pairs st.world)
     count = sym (length-map st.pairs face) ∙ ap length h.pairs ∙ length-map (matched_pairs st.world) (matched_face (names_of st.requests))
+
     by_pair : (o : Option matching.Pair) → completed_by st.world.calls c ≡ o → IsMatched (joined (asked st c name side))
     by_pair None is =
         let none : next_pair (asked st c name side) ≡ None =
