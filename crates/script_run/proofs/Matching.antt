@@ -1,9 +1,9 @@
 -- The pairs and the requests of a script go with its world, by induction over the calls: an initialisation completes
 -- one pair at most, whose two slots are the newest one and one that was in no pair before.
-use Rattle.std.proofs.Common.{◌≡◌, ◌≢◌, ◌⊎◌, ◌↔◌, ℕ, zero, suc, ◌+◌, ◌<◌, ◌≤◌, true, false, if◌then◌else◌, is_some, List, [], ◌∷◌, ◌++◌, length, map, set, fold, get_or, Option, Some, None, Result, Ok, Err, refl, sym, ap, subst, ◌∙◌, length-append, arith, inl, inr}
+use Rattle.std.proofs.Common.{◌≡◌, ◌≢◌, ◌⊎◌, ℕ, zero, suc, ◌+◌, ◌<◌, ◌≤◌, true, false, if◌then◌else◌, is_some, List, [], ◌∷◌, ◌++◌, length, map, set, fold, get_or, Option, Some, None, Result, Ok, Err, refl, sym, ap, subst, ◌∙◌, length-append, arith, inl, inr}
 use Rattle.std.specs.Prelude.{slice_get}
 use Rattle.std.specs.Option.{option_map, option_to_list}
-use Rattle.std.proofs.lemmas.Bool.{cases_lt, cases_eq}
+use Rattle.std.proofs.lemmas.Bool.{cases_lt}
 use Rattle.std.proofs.lemmas.List.{length-map, map-append}
 use Rattle.std.proofs.lemmas.Option.{slice_get_within, slice_get_past}
 use Rattle.part_geometry.specs.declared.answers.Side.{Side}
@@ -24,9 +24,8 @@ use Rattle.script_text.specs.declared.call.Action.{Action}
 use Rattle.script_text.specs.declared.call.Call.{Call}
 use Rattle.script_text.specs.declared.call.Call.TheVariants.{Send, Recv, Request}
 use Rattle.script_text.specs.declared.call.Init.{Init}
-use Rattle.script_text.specs.Script.{World}
 use Rattle.script_run.specs.Laws.{Face, face, matched_face, names_of, IsIn, IsMatched, PairsAreMatched}
-use Rattle.script_run.specs.Run.{in_pair, with_pair, matched_at, begun, next_pair, joined, with_request, with_world, world_answer, initialised, after_init_of, after_pair, after_request, after_known, known_as, after_call}
+use Rattle.script_run.specs.Run.{in_pair, with_pair, matched_at, begun, next_pair, joined, world_answer, initialised, after_init_of, after_pair, after_request, after_known, known_as, after_call}
 use Rattle.script_run.specs.State.{Known, Pair, State, first_state, slot_of, HasSlots}
 use Rattle.script_run.proofs.Steps.{call_slots}
 
