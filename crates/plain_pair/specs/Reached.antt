@@ -46,7 +46,8 @@ pub record IsMarkedByte (g : Shape) (round : Round) (place byte : ℕ) : Type 0 
 -- receiver's round
 pub record AreTaken (g : Shape) (r : Record) (q : ℕ) (taken : Taken) : Type 0 where
   pub size : length taken.bytes ≡ g.recv_bytes
-  pub marked : (x : ℕ) → x < g.recv_bytes → IsMarkedByte g (round_of r r.received) (q * g.recv_bytes + x) (slice_index taken.bytes x)
+  pub marked : (x : ℕ) → x < g.recv_bytes
+      → IsMarkedByte g (round_of r r.received) (q * g.recv_bytes + x) (slice_index taken.bytes x)
 
 abbrev pub TakesAreMarked : Type 0
 TakesAreMarked =

@@ -19,7 +19,11 @@ face p = record { send = p.send; recv = p.recv; shape = p.shape }
 
 -- the same of a pair of the world, where the requests have these names in the order of their slots
 abbrev pub matched_face : List (List ℕ) → Matched → Face
-matched_face names m = record { send = slice_index_or names m.send_slot []; recv = slice_index_or names m.recv_slot []; shape = m.geometry }
+matched_face names m = record {
+  send = slice_index_or names m.send_slot [];
+  recv = slice_index_or names m.recv_slot [];
+  shape = m.geometry;
+}
 
 abbrev pub names_of : List Known → List (List ℕ)
 names_of requests = map (λ r. r.name) requests
@@ -31,7 +35,8 @@ IsIn w slot n = (m : Matched) × (slice_get (matched_pairs w) n ≡ Some m) × (
 -- the pairs are those of the world, in its order; and a request is in the n-th pair exactly where its slot is
 pub record IsMatched (st : State) : Type 0 where
   pub pairs : map face st.pairs ≡ map (matched_face (names_of st.requests)) (matched_pairs st.world)
-  pub requests : (slot n : ℕ) (r : Known) → slice_get st.requests slot ≡ Some r → (r.pair ≡ Some n) ↔ IsIn st.world slot n
+  pub requests : (slot n : ℕ) (r : Known) → slice_get st.requests slot ≡ Some r
+      → (r.pair ≡ Some n) ↔ IsIn st.world slot n
 
 -- so it is after any calls of a script
 abbrev pub PairsAreMatched : Type 0
