@@ -19,5 +19,8 @@ pub fn piece_bytes(geometry: &Geometry, i: u32) -> u32
 
 /// The bytes of the longest piece.
 pub fn longest_piece(geometry: &Geometry) -> u32 {
-    (0..geometry.pieces()).map(|i| piece_bytes(geometry, i)).max().unwrap_or(0)
+    (0..geometry.pieces())
+        .map(|i| piece_bytes(geometry, i))
+        .max()
+        .unwrap_or(0)
 }

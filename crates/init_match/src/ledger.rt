@@ -64,10 +64,7 @@ impl Ledger {
     {
         let call = self.calls.get(slot)?;
         let turn = self.turns[slot] as usize;
-        self.keys
-            .of(facing(call.side), call.key)
-            .get(turn)
-            .copied()
+        self.keys.of(facing(call.side), call.key).get(turn).copied()
     }
 
     /// One call more. It takes all memory before anything changes.

@@ -6,6 +6,6 @@ mod plain;
 mod request;
 
 pub use faults::{FreeFault, Freed, ReqFault};
-pub use plain::{start_recv_plain, start_send_plain, test_recv_plain, test_send_plain};
 pub use part_geometry::Side;
+pub use plain::{start_recv_plain, start_send_plain, test_recv_plain, test_send_plain};
 pub use request::{ReqState, Request};
