@@ -6,17 +6,11 @@ use part_api::{
 };
 use part_geometry::{Geometry, RecvTest};
 use plain_pair::{PlainPair, PlainSendTest};
-use std::process::Abort;
-
-/// A pair of one partition of one byte.
-fn pair_of_one<R: Abort + AllocGlobal>(rt: &R) -> PlainPair {
-    let geometry = Geometry::new(1, 1, 1, 1, 1, 1).expect(rt, "within the limits");
-    PlainPair::create(rt.alloc(), geometry).expect(rt, "enough memory")
-}
 
 #[test]
 fn requests_go_through_their_states(rt: HostRuntime) {
-    let mut pair = pair_of_one(&rt);
+    let geometry = Geometry::new(1, 1, 1, 1, 1, 1).expect(&rt, "within the limits");
+    let mut pair = PlainPair::create(rt.alloc(), geometry).expect(&rt, "enough memory");
     let mut send = Request::new(Side::SendSide);
     let mut recv = Request::new(Side::RecvSide);
     let unmatched = (
@@ -62,7 +56,8 @@ fn requests_go_through_their_states(rt: HostRuntime) {
 
 #[test]
 fn a_round_completes_both_requests(rt: HostRuntime) {
-    let mut pair = pair_of_one(&rt);
+    let geometry = Geometry::new(1, 1, 1, 1, 1, 1).expect(&rt, "within the limits");
+    let mut pair = PlainPair::create(rt.alloc(), geometry).expect(&rt, "enough memory");
     let mut send = Request::new(Side::SendSide);
     let mut recv = Request::new(Side::RecvSide);
     send.matched();
