@@ -9,9 +9,9 @@ use Rattle.part_geometry.specs.Pieces.{pieces, piece_of, first_part, Touches}
 use Rattle.pair_core.specs.Words.{bit}
 use Rattle.pair_core.specs.Names.{put, put_pair}
 use Rattle.pair_core.specs.Core.{Slot, Home, Out, IsMarker}
-use Rattle.pair_core.specs.Reading.{part_bit, next_round, laid}
+use Rattle.pair_core.specs.Reading.{part_bit, laid}
 use Rattle.pair_core.specs.Steps.{put_slots}
-use Rattle.pair_core.specs.Sound.{Progress, Gates, Pieces, Arrived, IsPending, Claims, IsHeld, Slots}
+use Rattle.pair_core.specs.Sound.{Progress, Gates, Pieces, Arrived, IsPending, Claims, IsHeld, HasRound, Slots}
 use Rattle.pair_core.specs.declared.view.Pending.{Pending}
 use Rattle.pair_core.specs.declared.view.SendSide.{SendSide}
 use Rattle.pair_core.specs.declared.view.RecvSide.{RecvSide}
@@ -205,7 +205,7 @@ slots_gain g v f h take ret piece send recv slot who n p a free arrived r =
           absurd (unlent (e, ((free.shut, opened, claimed), lacks))))
           (λ not. r.home d c low inside (λ both. unlent (both.0, ((both.1.0.0, both.1.0.1, gains_one f h p a (send_of g c) both.1.0.2), both.1.1))) unheld);
       tied = λ d c j low inside. slots_cases slot place (λ b. send_of g b == p) (Out n) d c
-          (λ z. z ≡ Home j → laid g (piece d (piece_of g c)) (piece_of g c) (send_of g c) ≡ 1 → next_round ret (recv_of g c) ≤ round_in (piece d (piece_of g c)) → j ≡ round_in (piece d (piece_of g c)))
+          (λ z. z ≡ Home j → HasRound g ret (piece d (piece_of g c)) c → j ≡ round_in (piece d (piece_of g c)))
           (λ _ _ e. absurd (out_home n j e))
           (λ _. r.tied d c j low inside);
     }

@@ -18,7 +18,7 @@ use Rattle.pair_core.specs.declared.view.Life.TheVariants.{Live}
 use Rattle.pair_core.proofs.Words.{later_or}
 use Rattle.pair_core.proofs.Rounds.{place_lt}
 use Rattle.pair_core.proofs.Cut.{cell_piece, cell_touches, cell_touches_recv}
-use Rattle.pair_core.proofs.Frames.{sees, owns_else, unused_or}
+use Rattle.pair_core.proofs.Frames.{sees, opened_else, news_claim, live_not_blank, owns_else, unused_or}
 use Rattle.pair_core.proofs.Loads.{loads_keeps}
 use Rattle.pair_core.proofs.ClaimGroups.{Gains, gains, IsFree, free_of, free_unheld, gates_gain, pieces_gain, claims_gain, slots_gain}
 use Rattle.pair_core.proofs.ClaimMarks.{marks_gain}
@@ -76,7 +76,9 @@ module _ {A : Type 0} where
         marks = marks_gain g f h s.life s.marks r.who s.send.round n p a gain inside free.lacks free.now free.round sort live r.marks;
         takes = r.takes;
         unused = unused_or g s.word (Claim (p / 32)) (p % 32) r.unused (λ _. inr (omega arith, omega arith));
-        seen = sees g s.word s.life s.seen n (Claim (p / 32)) w r.seen (λ _. later_or (f (p / 32)) (p % 32) (omega arith));
+        seen = sees g s.word s.life s.seen n (Claim (p / 32)) w r.lives.send r.seen (λ _. later_or (f (p / 32)) (p % 32) (omega arith));
+        opened = opened_else s.send s.seen n _ (λ e. let low = sort.0 in omega arith) r.opened;
+        news = news_claim g s.life s.seen s.looks s.pending s.marks n _ _ _ _ (live_not_blank (s.life n) live) r.news;
         owns = owns_else g take ret s.seen n (put_word (Claim (p / 32)) w (s.seen n)) (marker_not_one n sort) r.owns;
         lives = r.lives;
       }
@@ -89,7 +91,7 @@ module _ {A : Type 0} where
   tries_claim_keeps g v s n p a r ok = elim (cases_Bool (s.word (Claim (p / 32)) == s.seen n (Claim (p / 32)))) [
     | inl wins ↦ subst (λ (b : Bool). Sound g (if b then claims g n p a s else loads n (Claim (p / 32)) s)) (sym wins)
         (claims_keeps g v s n p a r ok.0 ok.1 ok.2 ok.3 (seen_may s n p (eqb-true (s.word (Claim (p / 32))) (s.seen n (Claim (p / 32))) wins) ok.4))
-    | inr fails ↦ subst (λ (b : Bool). Sound g (if b then claims g n p a s else loads n (Claim (p / 32)) s)) (sym fails) (loads_keeps g s n (Claim (p / 32)) r)
+    | inr fails ↦ subst (λ (b : Bool). Sound g (if b then claims g n p a s else loads n (Claim (p / 32)) s)) (sym fails) (loads_keeps g s n (Claim (p / 32)) (live_not_blank (s.life n) ok.1) r)
   ]
 
   -- the slots of the cells of a partition that may be claimed are home

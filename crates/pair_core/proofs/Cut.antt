@@ -1,9 +1,8 @@
 -- What the proofs use of a geometry.
-use Rattle.std.proofs.Common.{◌≡◌, ◌≢◌, ◌⊎◌, inl, inr, ℕ, ◌+◌, ◌-◌, ◌/◌, ◌%◌, ◌<◌, ◌≤◌, refl, sym, ap, ◌∙◌, subst, arith}
+use Rattle.std.proofs.Common.{◌≢◌, ℕ, ◌+◌, ◌-◌, ◌/◌, ◌<◌, ◌≤◌, refl, subst, arith}
 use Rattle.part_geometry.specs.Shape.{Shape, IsShape}
 use Rattle.part_geometry.specs.Cells.{cells, send_of, recv_of}
-use Rattle.part_geometry.specs.Pieces.{pieces, piece_of, first_cell, last_cell, first_part, need_count, Touches, TouchesRecv}
-use Rattle.part_geometry.proofs.Bounds.{cells-pos}
+use Rattle.part_geometry.specs.Pieces.{pieces, piece_of, first_part, need_count, Touches, TouchesRecv}
 use Rattle.part_geometry.proofs.Parts.{send-below, recv-below}
 use Rattle.part_geometry.proofs.Rows.{row-all, send-row, recv-row}
 use Rattle.pair_core.specs.Names.{claim_words, take_words}

@@ -1,5 +1,5 @@
 -- A seat's first event, loads, and what a seat learns keep soundness.
-use Rattle.std.proofs.Common.{◌≡◌, ◌≢◌, inl, inr, ⊎_elim, ℕ, ◌+◌, ◌%◌, ◌<◌, ◌≤◌, Bool, ◌==◌, List, ◌∷◌, Option, Some, refl, sym, ap, ◌∙◌, subst, arith}
+use Rattle.std.proofs.Common.{◌≡◌, ◌≢◌, inl, inr, ⊎_elim, ℕ, ◌+◌, ◌%◌, ◌<◌, ◌≤◌, Bool, true, false, ◌==◌, List, ◌∷◌, Option, Some, refl, sym, ap, ◌∙◌, subst, arith}
 use Rattle.std.specs.Prelude.{if◌then◌else◌}
 use Rattle.std.proofs.lemmas.Bool.{cases_lt, cases_eq, eq-eqb, ne_eqb}
 use Rattle.gate_word.specs.Words.{round_in}
@@ -10,15 +10,17 @@ use Rattle.part_geometry.specs.Cells.{cells, send_of}
 use Rattle.pair_core.specs.Names.{Name, Claim, Release, Take, Return, Piece, Fits, put}
 use Rattle.pair_core.specs.Core.{Core, Slot, Out, IsMarker, IsWatcher}
 use Rattle.pair_core.specs.Steps.{counted, entered, enters}
-use Rattle.pair_core.specs.Moves.{IsAllowed, after, LoadClaim, LoadPiece, LoadRelease, Split, Rise}
-use Rattle.pair_core.specs.Sound.{Progress, Gates, Pieces, Receiving, Claims, IsLent, Slots, Marks, Seen, Owns, occurrences, Counts, Lives, Sound}
+use Rattle.pair_core.specs.Moves.{first_word, IsAllowed, after, LoadClaim, LoadPiece, LoadRelease, Split, Rise}
+use Rattle.pair_core.specs.Sound.{Progress, Gates, Pieces, Receiving, Claims, IsLent, Slots, Marks, Seen, SeesOpened, News, Owns, occurrences, Counts, Lives, Sound}
 use Rattle.pair_core.specs.declared.view.Mark.{Mark}
 use Rattle.pair_core.specs.declared.view.Pending.{Pending}
 use Rattle.pair_core.specs.declared.view.SendSide.{SendSide}
 use Rattle.pair_core.specs.declared.view.RecvSide.{RecvSide}
 use Rattle.pair_core.specs.declared.view.Life.{Life}
 use Rattle.pair_core.specs.declared.view.Life.TheVariants.{Blank, Live, Spent}
-use Rattle.pair_core.proofs.Puts.{put_cases}
+use Rattle.pair_core.proofs.Words.{later_trans, later_round}
+use Rattle.pair_core.proofs.Puts.{put_here, put_cases}
+use Rattle.pair_core.proofs.Frames.{news_kept, news_else, live_not_blank}
 use Rattle.pair_core.proofs.Loads.{loads_keeps}
 
 -- The groups read nothing of how many seats are out.
@@ -38,6 +40,7 @@ progress_counts g released send recv m w p = record {
   takes = p.takes;
   takes_last = p.takes_last;
   ends_last = p.ends_last;
+  ends_once = p.ends_once;
   current = p.current;
 }
 
@@ -132,9 +135,9 @@ module _ {A : Type 0} where
   -- which seats have a view, and what they saw, where markers stay and no seat comes back
   pub recounted : (g : Shape) (s : Core A) (life' : ℕ → Life) (seen' looks' : ℕ → Name → ℕ) (m w : ℕ) → Sound g s
       → ((n : ℕ) → IsMarker n → s.life n ≡ Live → life' n ≡ Live)
-      → Seen g s.word life' seen' → Owns g (λ t. s.word (Take t)) (λ t. s.word (Return t)) (seen' 1) → Lives life' m w
+      → Seen g s.word life' seen' → SeesOpened s.send (seen' 0) → News g life' seen' looks' s.pending s.marks → Owns g (λ t. s.word (Take t)) (λ t. s.word (Return t)) (seen' 1) → Lives life' m w
       → Sound g (record s { life = life'; seen = seen'; looks = looks'; send = record s.send { markers = m }; recv = record s.recv { watchers = w } })
-  recounted g s life' seen' looks' m w r alive seen owns lives =
+  recounted g s life' seen' looks' m w r alive seen opened news owns lives =
       let claim : ℕ → ℕ = λ c. s.word (Claim c) in let take : ℕ → ℕ = λ t. s.word (Take t) in let ret : ℕ → ℕ = λ t. s.word (Return t) in let piece : ℕ → ℕ → ℕ = λ d i. s.word (Piece d i) in
       record {
         who = r.who;
@@ -149,6 +152,8 @@ module _ {A : Type 0} where
         takes = r.takes;
         unused = r.unused;
         seen = seen;
+        opened = opened;
+        news = news;
         owns = owns;
         lives = lives;
       }
@@ -170,17 +175,20 @@ module _ {A : Type 0} where
       let dead : s.life n ≢ Live = λ e. absurd (cc) in
       let alive : (m : ℕ) → s.life m ≡ Live → life' m ≡ Live = put_cases s.life n Live (λ m z. s.life m ≡ Live → z ≡ Live) (λ _. refl) (λ _ _ e. e) in
       let before : (m : ℕ) → life' m ≢ Spent → s.life m ≢ Spent = put_cases s.life n Live (λ m z. z ≢ Spent → s.life m ≢ Spent) (λ _ e. absurd (cc)) (λ _ _ h. h) in
-      let seen : Seen g s.word life' s.seen = λ m x live fits. r.seen m x (before m live) fits in
+      let blank_before : (m : ℕ) → life' m ≡ Blank → s.life m ≡ Blank = put_cases s.life n Live (λ m z. z ≡ Blank → s.life m ≡ Blank) (λ e. absurd (cc)) (λ _ _ e. e) in
+      let seen : Seen g s.word life' s.seen = record { present = λ m x live fits. r.seen.present m x (before m live) fits; first = r.seen.first } in
+      let news : News g life' s.seen s.looks s.pending s.marks = news_kept g s.life life' s.seen s.seen s.looks s.looks s.pending s.pending s.marks s.marks
+      (λ m e. (blank_before m e, refl, refl, refl, refl)) r.news in
       elim (cases_eq (n % 2) 0) [
         | inl e ↦ subst (λ (b : Bool). Sound g (counted b n s)) (sym (eq-eqb (n % 2) 0 e))
-            (recounted g s life' s.seen s.looks (s.send.markers + 1) s.recv.watchers r (λ m _. alive m) seen r.owns record {
+            (recounted g s life' s.seen s.looks (s.send.markers + 1) s.recv.watchers r (λ m _. alive m) seen r.opened news r.owns record {
               send = alive 0 r.lives.send;
               recv = alive 1 r.lives.recv;
               markers_out = counts_more IsMarker s.life n s.send.markers (two, e) dead r.lives.markers_out;
               watchers_out = counts_else IsWatcher s.life n s.recv.watchers Live (λ odd. let o = odd.1 in omega arith) r.lives.watchers_out;
             })
         | inr o ↦ subst (λ (b : Bool). Sound g (counted b n s)) (sym (ne_eqb (n % 2) 0 o))
-            (recounted g s life' s.seen s.looks s.send.markers (s.recv.watchers + 1) r (λ m _. alive m) seen r.owns record {
+            (recounted g s life' s.seen s.looks s.send.markers (s.recv.watchers + 1) r (λ m _. alive m) seen r.opened news r.owns record {
               send = alive 0 r.lives.send;
               recv = alive 1 r.lives.recv;
               markers_out = counts_else IsMarker s.life n s.send.markers Live (λ even. o even.1) r.lives.markers_out;
@@ -197,17 +205,27 @@ module _ {A : Type 0} where
       go Live e = r
       go Spent e = absurd (unspent e)
 
+  -- and then it has a view
+  counted_there : (b : Bool) (n : ℕ) (s : Core A) → (counted b n s).life n ≢ Blank
+  counted_there true n s = live_not_blank (put s.life n Live n) (put_here s.life n Live)
+  counted_there false n s = live_not_blank (put s.life n Live n) (put_here s.life n Live)
+
+  pub entered_there : (l : Life) (n : ℕ) (s : Core A) → s.life n ≡ l → (entered l n s).life n ≢ Blank
+  entered_there Blank n s e = counted_there (n % 2 == 0) n s
+  entered_there Live n s e = live_not_blank (s.life n) e
+  entered_there Spent n s e = λ f. absurd (cc)
+
   pub split_keeps : (g : Shape) (s : Core A) (n : ℕ) → Sound g s → IsAllowed g s (Split n) → Sound g (after g s (Split n))
   split_keeps g s n r allowed = enters_keeps g s n (let blank : s.life n ≡ Blank = allowed.1 in λ e. absurd (cc)) r
 
   pub load_claim_keeps : (g : Shape) (s : Core A) (n c : ℕ) → Sound g s → IsAllowed g s (LoadClaim n c) → Sound g (after g s (LoadClaim n c))
-  load_claim_keeps g s n c r allowed = loads_keeps g (enters n s) n (Claim c) (enters_keeps g s n allowed.0 r)
+  load_claim_keeps g s n c r allowed = loads_keeps g (enters n s) n (Claim c) (entered_there (s.life n) n s refl) (enters_keeps g s n allowed.0 r)
 
   pub load_piece_keeps : (g : Shape) (s : Core A) (n d i : ℕ) → Sound g s → IsAllowed g s (LoadPiece n d i) → Sound g (after g s (LoadPiece n d i))
-  load_piece_keeps g s n d i r allowed = loads_keeps g (enters n s) n (Piece d i) (enters_keeps g s n allowed.0 r)
+  load_piece_keeps g s n d i r allowed = loads_keeps g (enters n s) n (Piece d i) (entered_there (s.life n) n s refl) (enters_keeps g s n allowed.0 r)
 
   pub load_release_keeps : (g : Shape) (s : Core A) → Sound g s → IsAllowed g s LoadRelease → Sound g (after g s LoadRelease)
-  load_release_keeps g s r allowed = loads_keeps g s 0 Release r
+  load_release_keeps g s r allowed = loads_keeps g s 0 Release (live_not_blank (s.life 0) r.lives.send) r
 
   -- what a seat is told of words that were so
   pub rise_keeps : (g : Shape) (s : Core A) (n : ℕ) (w : Name → ℕ) (more : ℕ) → Sound g s → IsAllowed g s (Rise n w more) → Sound g (after g s (Rise n w more))
@@ -223,7 +241,20 @@ module _ {A : Type 0} where
     marks = r.marks;
     takes = r.takes;
     unused = r.unused;
-    seen = put_cases s.seen n w (λ m f. (x : Name) → s.life m ≢ Spent → Fits g x → IsLater (f x) (s.word x)) (λ x _ fits. (between x fits).1) (λ m _. r.seen m);
+    seen = record {
+      present = put_cases s.seen n w (λ m f. (x : Name) → s.life m ≢ Spent → Fits g x → IsLater (f x) (s.word x)) (λ x _ fits. (between x fits).1) (λ m _. r.seen.present m);
+      first = put_cases s.seen n w (λ m f. (x : Name) → Fits g x → IsLater (first_word g x) (f x))
+          (λ x fits. later_trans (first_word g x) (s.seen n x) (w x) (r.seen.first n x fits) (between x fits).0) (λ m _. r.seen.first m);
+    };
+    opened = λ c unshut low. put_cases s.seen n w (λ m f. m ≡ 0 → round_in (f (Claim c)) ≡ s.send.round)
+        (λ e.
+        let most = r.progress.opened in let fits : Fits g (Claim c) = omega arith in
+        let b = between (Claim c) fits in
+        let least = later_round (s.seen n (Claim c)) (w (Claim c)) b.0 in let highest = later_round (w (Claim c)) (s.word (Claim c)) b.1 in
+        let old : round_in (s.seen n (Claim c)) ≡ s.send.round = ap (λ (k : ℕ). round_in (s.seen k (Claim c))) e ∙ r.opened c unshut low in
+        let now = (r.gates.is_open c (omega arith) low).0 in omega arith)
+        (λ m _ e. ap (λ (k : ℕ). round_in (s.seen k (Claim c))) e ∙ r.opened c unshut low) 0 refl;
+    news = news_else g s.life s.seen s.looks s.pending s.marks n _ _ (live_not_blank (s.life n) allowed.0) r.news;
     owns = put_cases s.seen n w (λ m f. m ≡ 1 → Owns g (λ t. s.word (Take t)) (λ t. s.word (Return t)) f)
         (λ e. record {
           takes = λ t h. same (Take t) h (ap (λ (z : ℕ). s.seen z (Take t)) e ∙ r.owns.takes t h);

@@ -1,15 +1,15 @@
 -- What a claim and a lay add to the history.
-use Rattle.std.proofs.Common.{◌≡◌, ◌≢◌, ◌⊎◌, ◌↔◌, inl, inr, ⊎_elim, ℕ, suc, ◌+◌, ◌-◌, ◌*◌, ◌/◌, ◌%◌, ◌^◌, ◌<◌, ◌≤◌, min, Bool, true, false, true≢false, ◌==◌, List, [], ◌∷◌, ◌++◌, Option, Some, None, refl, sym, ap, ◌∙◌, subst, arith, bit_or}
-use Rattle.std.specs.Prelude.{nat_lt, if◌then◌else◌}
-use Rattle.std.proofs.lemmas.Bool.{cases_eq, cases_lt, eq-eqb, ne_eqb, eqb-true}
+use Rattle.std.proofs.Common.{◌≡◌, ◌≢◌, inl, inr, ⊎_elim, ℕ, ◌+◌, ◌-◌, ◌/◌, ◌%◌, ◌^◌, ◌<◌, ◌≤◌, min, Bool, true, false, true≢false, ◌==◌, List, [], ◌∷◌, ◌++◌, Option, Some, refl, sym, ap, ◌∙◌, subst, arith, bit_or}
+use Rattle.std.specs.Prelude.{if◌then◌else◌}
+use Rattle.std.proofs.lemmas.Bool.{cases_eq, cases_lt, eqb-true}
 use Rattle.gate_word.specs.Words.{round_in}
 use Rattle.part_geometry.specs.Shape.{Shape, IsShape}
 use Rattle.part_geometry.specs.Pieces.{pieces, first_part, Touches}
 use Rattle.pair_core.specs.Words.{bit}
-use Rattle.pair_core.specs.Names.{Name, Claim, Release, Take, Return, Piece, claim_words, take_words, put, put_pair}
-use Rattle.pair_core.specs.Core.{Core, has}
-use Rattle.pair_core.specs.Reading.{part_bit, next_round, laid, IsFull, is_full}
-use Rattle.pair_core.specs.Steps.{claims, loads, lays_piece, tries_claim}
+use Rattle.pair_core.specs.Names.{Claim, Release, Take, Piece, put, put_pair}
+use Rattle.pair_core.specs.Core.{Core}
+use Rattle.pair_core.specs.Reading.{next_round, laid, is_full}
+use Rattle.pair_core.specs.Steps.{claims, loads, lays_piece}
 use Rattle.pair_core.specs.Moves.{IsAllowed, TryClaim, LayPiece, after, lays, MayLay}
 use Rattle.pair_core.specs.Sound.{Sound, IsPending, IsClaimed}
 use Rattle.pair_core.specs.History as entry
@@ -18,11 +18,10 @@ use Rattle.pair_core.specs.declared.view.Pending.{Pending}
 use Rattle.pair_core.specs.declared.view.SendSide.{SendSide}
 use Rattle.pair_core.specs.declared.view.RecvSide.{RecvSide}
 use Rattle.pair_core.proofs.Words.{bit_lt, round_or, bit_or_here, bit_or_else}
-use Rattle.pair_core.proofs.Puts.{put_here, put_else, put_at, put_pair_at, put_pair_here}
-use Rattle.pair_core.proofs.Rounds.{place_lt}
-use Rattle.pair_core.proofs.Cut.{some_claims, claim_word, bit_small, bits_apart, touch_part}
-use Rattle.pair_core.proofs.Full.{full_passes, passes_full, lacks_full}
-use Rattle.pair_core.proofs.Told.{Upto, Within, Told, Tells, if_stored, lay_bound, out_bound, listen_bound, one_if, upto_skip, upto_add, upto_same, has_below, not_above, stored_is, waiting_is, one_true, one_false, one_most}
+use Rattle.pair_core.proofs.Puts.{put_at, put_pair_at, put_pair_here}
+use Rattle.pair_core.proofs.Cut.{some_claims, claim_word, bits_apart, touch_part}
+use Rattle.pair_core.proofs.Full.{passes_full, lacks_full}
+use Rattle.pair_core.proofs.Told.{Upto, Within, Told, Tells, if_stored, lay_bound, out_bound, listen_bound, one_if, upto_skip, upto_add, upto_same, has_below, not_above, stored_is, one_true, one_false, one_most}
 use Rattle.pair_core.proofs.HistorySend.{Adds}
 
 -- one partition more is claimed in the sender's round

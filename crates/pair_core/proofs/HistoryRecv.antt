@@ -1,15 +1,14 @@
 -- What the receive side's steps add to the history.
-use Rattle.std.proofs.Common.{◌≡◌, ◌≢◌, ◌⊎◌, ◌↔◌, inl, inr, ⊎_elim, ℕ, suc, ◌+◌, ◌-◌, ◌*◌, ◌/◌, ◌%◌, ◌^◌, ◌<◌, ◌≤◌, min, Bool, true, false, ◌==◌, List, [], ◌∷◌, ◌++◌, refl, sym, ap, ◌∙◌, subst, arith, bit_or}
-use Rattle.std.specs.Prelude.{if◌then◌else◌}
+use Rattle.std.proofs.Common.{◌≡◌, ◌≢◌, inl, inr, ⊎_elim, ℕ, ◌+◌, ◌-◌, ◌/◌, ◌%◌, ◌^◌, ◌<◌, ◌≤◌, Bool, true, List, [], ◌∷◌, refl, sym, ap, ◌∙◌, subst, arith, bit_or}
 use Rattle.std.proofs.lemmas.Bool.{cases_eq, cases_lt, eq-eqb, ne_eqb}
 use Rattle.gate_word.specs.Words.{round_in}
 use Rattle.part_geometry.specs.Shape.{Shape, IsShape}
-use Rattle.part_geometry.specs.Pieces.{pieces, first_part, Touches, TouchesRecv}
+use Rattle.part_geometry.specs.Pieces.{pieces, first_part}
 use Rattle.pair_core.specs.Words.{bit, empty}
-use Rattle.pair_core.specs.Names.{Name, Claim, Release, Take, Return, Piece, take_words, put}
+use Rattle.pair_core.specs.Names.{Claim, Release, Take, Piece, take_words, put}
 use Rattle.pair_core.specs.Core.{Core}
-use Rattle.pair_core.specs.Reading.{part_bit, next_round, laid, IsFull, is_full}
-use Rattle.pair_core.specs.Moves.{IsAllowed, StoreReturn, StoreTake, TakePart, ReturnPart, StoreRelease, after, AreSeen}
+use Rattle.pair_core.specs.Reading.{next_round, IsFull, is_full}
+use Rattle.pair_core.specs.Moves.{IsAllowed, StoreReturn, StoreTake, TakePart, StoreRelease, after}
 use Rattle.pair_core.specs.Sound.{Sound}
 use Rattle.pair_core.specs.History as entry
 use Rattle.pair_core.specs.History.{Entry, Has, Follows, IsInOrder, entries, where_so}
@@ -18,11 +17,11 @@ use Rattle.pair_core.specs.declared.view.RecvSide.{RecvSide}
 use Rattle.pair_core.proofs.Words.{bit_lt, empty_round, empty_bit, round_or, bit_or_here, bit_or_else, later_round, later_bit}
 use Rattle.pair_core.proofs.Puts.{put_at}
 use Rattle.pair_core.proofs.Rounds.{place_lt, places_apart, last_place}
-use Rattle.pair_core.proofs.Cut.{some_takes, take_word, recv_touched, bit_small}
+use Rattle.pair_core.proofs.Cut.{some_takes, take_word, bit_small}
 use Rattle.pair_core.proofs.Full.{full_passes}
 use Rattle.pair_core.proofs.SendFacts.{live_unspent, round_le}
-use Rattle.pair_core.proofs.Told.{Upto, Within, Told, Tells, listen_bound, out_bound, one_if, upto_skip, upto_add, upto_same, has_below, not_above, stored_is, waiting_is, one_true}
-use Rattle.pair_core.proofs.HistorySend.{Adds, some_part}
+use Rattle.pair_core.proofs.Told.{Upto, Told, Tells, listen_bound, out_bound, one_if, upto_skip, upto_add, upto_same, has_below, not_above, stored_is, waiting_is, one_true}
+use Rattle.pair_core.proofs.HistorySend.{Adds}
 
 -- a piece word that is beyond the released round by less than the depth stands at its round's place
 round_place : {A : Type 0} (g : Shape) (s : Core A) (d i : ℕ) → Sound g s → d < g.depth → i < pieces g → round_in (s.word Release) < round_in (s.word (Piece d i)) → round_in (s.word (Piece d i)) % g.depth ≡ d
@@ -44,7 +43,7 @@ pub full_now : {A : Type 0} (g : Shape) → IsShape g → (s : Core A) (i : ℕ)
 full_now {A} g v s i r inside saw busy =
     let d : ℕ = s.recv.round % g.depth in let w : ℕ = s.word (Piece d i) in let o : ℕ = s.seen 1 (Piece d i) in
     let place = place_lt g.depth s.recv.round v.depth.0 v.depth.1 in
-    let later = r.seen 1 (Piece d i) (live_unspent (s.life 1) r.lives.recv) (place, inside) in
+    let later = r.seen.present 1 (Piece d i) (live_unspent (s.life 1) r.lives.recv) (place, inside) in
     let up = later_round o w later in let round = saw.round in
     let most = round_le g (λ c. s.word (Claim c)) (λ e j. s.word (Piece e j)) s.send r.pieces d i place inside in
     let current = r.progress.current in let ahead = r.progress.ahead in

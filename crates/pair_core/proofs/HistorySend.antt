@@ -1,27 +1,26 @@
 -- What the send side's steps add to the history.
-use Rattle.std.proofs.Common.{◌≡◌, ◌≢◌, ◌⊎◌, ◌↔◌, inl, inr, ⊎_elim, ℕ, suc, ◌+◌, ◌-◌, ◌*◌, ◌/◌, ◌%◌, ◌^◌, ◌<◌, ◌≤◌, min, Bool, true, false, ◌==◌, List, [], ◌∷◌, ◌++◌, refl, sym, ap, ◌∙◌, subst, arith, bit_or}
-use Rattle.std.specs.Prelude.{nat_lt, if◌then◌else◌}
+use Rattle.std.proofs.Common.{◌≡◌, ◌≢◌, inl, inr, ⊎_elim, ℕ, ◌+◌, ◌-◌, ◌/◌, ◌%◌, ◌^◌, ◌<◌, ◌≤◌, min, Bool, ◌==◌, List, [], ◌∷◌, ◌++◌, refl, sym, ap, ◌∙◌, subst, arith, bit_or}
 use Rattle.std.proofs.lemmas.Bool.{cases_eq, cases_lt, eq-eqb, ne_eqb}
 use Rattle.gate_word.specs.Words.{round_in}
 use Rattle.part_geometry.specs.Shape.{Shape, IsShape}
 use Rattle.part_geometry.specs.Pieces.{pieces, first_part, Touches}
 use Rattle.part_geometry.proofs.PieceFacts.{need_count-pos}
 use Rattle.pair_core.specs.Words.{bit, empty}
-use Rattle.pair_core.specs.Names.{Name, Claim, Release, Take, Return, Piece, claim_words, take_words, put, put_pair}
+use Rattle.pair_core.specs.Names.{Claim, Release, Take, Piece, put, put_pair}
 use Rattle.pair_core.specs.Core.{Core}
-use Rattle.pair_core.specs.Reading.{part_bit, next_round, laid, IsFull, is_full}
-use Rattle.pair_core.specs.Moves.{IsAllowed, StorePiece, StoreClaim, ShutClaim, after, MayShut}
+use Rattle.pair_core.specs.Reading.{next_round, laid, IsFull, is_full}
+use Rattle.pair_core.specs.Moves.{IsAllowed, StorePiece, StoreClaim, ShutClaim, after}
 use Rattle.pair_core.specs.Sound.{Sound}
 use Rattle.pair_core.specs.History as entry
 use Rattle.pair_core.specs.History.{Entry, Has, Follows, IsInOrder, entries, where_so}
 use Rattle.pair_core.specs.declared.view.SendSide.{SendSide}
 use Rattle.pair_core.specs.declared.view.RecvSide.{RecvSide}
-use Rattle.pair_core.proofs.Words.{bit_lt, empty_round, empty_bit, round_or, bit_or_else}
-use Rattle.pair_core.proofs.Puts.{put_here, put_else, put_at, put_pair_at}
-use Rattle.pair_core.proofs.Cut.{some_claims, claim_word, bit_small, range_touch}
-use Rattle.pair_core.proofs.Full.{full_passes, passes_full, lacks_full}
+use Rattle.pair_core.proofs.Words.{empty_round, empty_bit, round_or, bit_or_else}
+use Rattle.pair_core.proofs.Puts.{put_at, put_pair_at}
+use Rattle.pair_core.proofs.Cut.{some_claims, bit_small, range_touch}
+use Rattle.pair_core.proofs.Full.{full_passes, lacks_full}
 use Rattle.pair_core.proofs.SendFacts.{live_unspent, seen_release, may_shut, IsNext, next_first, next_more}
-use Rattle.pair_core.proofs.Told.{Upto, Within, Told, Tells, if_stored, lay_bound, out_bound, one_if, upto_skip, upto_add, upto_same, has_below, not_above, stored_is, waiting_is, one_true, one_false}
+use Rattle.pair_core.proofs.Told.{Told, Tells, lay_bound, out_bound, one_if, upto_skip, upto_add, upto_same, has_below, not_above, stored_is, waiting_is, one_true, one_false}
 
 -- these entries are added: the next state tells them, and each follows what came before it
 pub record Adds {A : Type 0} (g : Shape) (s : Core A) (h es : List Entry) : Type 0 where

@@ -9,7 +9,7 @@ use Rattle.gate_word.specs.Order.{IsLater}
 use Rattle.part_geometry.specs.Shape.{Shape, IsShape}
 use Rattle.part_geometry.specs.Cells.{send_of}
 use Rattle.part_geometry.specs.Pieces.{piece_of}
-use Rattle.pair_core.specs.Names.{Name, Claim, Release, Take, Return, Piece, pick, put}
+use Rattle.pair_core.specs.Names.{Name, Claim, Release, Take, Return, Piece, Fits, pick, put}
 use Rattle.pair_core.specs.Core.{Core, IsMarker, IsWatcher, times}
 use Rattle.pair_core.specs.Reading.{next_round}
 use Rattle.pair_core.specs.Moves.{IsAllowed, after, joined, joins, first_word, Join}
@@ -17,10 +17,11 @@ use Rattle.pair_core.specs.Sound.{Marks, Seen, occurrences, Counts, Sound}
 use Rattle.pair_core.specs.declared.view.Mark.{Mark}
 use Rattle.pair_core.specs.declared.view.Pending.{Pending}
 use Rattle.pair_core.specs.declared.view.Life.{Life}
-use Rattle.pair_core.specs.declared.view.Life.TheVariants.{Live, Spent}
+use Rattle.pair_core.specs.declared.view.Life.TheVariants.{Blank, Live, Spent}
 use Rattle.pair_core.proofs.Puts.{put_here, put_else, put_cases}
 use Rattle.pair_core.proofs.Cut.{cell_send, cell_piece, cell_touches}
-use Rattle.pair_core.proofs.Frames.{owns_else}
+use Rattle.pair_core.proofs.Words.{later_refl}
+use Rattle.pair_core.proofs.Frames.{opened_else, news_kept, owns_else}
 use Rattle.pair_core.proofs.Enters.{progress_counts, gates_counts, pieces_counts, claims_counts, slots_counts, occurs_here, occurs_else, counts_else, recounted}
 
 -- who has what the seat n had: the seat 0
@@ -132,9 +133,17 @@ module _ {A : Type 0} where
       let looks' : ℕ → Name → ℕ = put s.looks n (λ x. 0) in
       let zero_other : 0 ≢ n = λ e. omega arith in
       let alive : (m : ℕ) → m ≢ n → s.life m ≡ Live → life' m ≡ Live = λ m other e. put_else s.life n Spent m other ∙ e in
-      let seen : Seen g s.word life' seen' = λ m x unspent fits. dite (ℕ_discrete m n)
-      (λ e. absurd (unspent (ap life' e ∙ put_here s.life n Spent)))
-      (λ o. subst (λ (f : Name → ℕ). IsLater (f x) (s.word x)) (sym (put_else s.seen n (first_word g) m o)) (r.seen m x (λ h. unspent (put_else s.life n Spent m o ∙ h)) fits)) in
+      let seen : Seen g s.word life' seen' = record {
+        present = λ m x unspent fits. dite (ℕ_discrete m n)
+            (λ e. absurd (unspent (ap life' e ∙ put_here s.life n Spent)))
+            (λ o. subst (λ (f : Name → ℕ). IsLater (f x) (s.word x)) (sym (put_else s.seen n (first_word g) m o)) (r.seen.present m x (λ h. unspent (put_else s.life n Spent m o ∙ h)) fits));
+        first = put_cases s.seen n (first_word g) (λ m f. (x : Name) → Fits g x → IsLater (first_word g x) (f x)) (λ x _. later_refl (first_word g x)) (λ m _. r.seen.first m);
+      } in
+      let opened = opened_else s.send s.seen n (first_word g) (λ e. omega arith) r.opened in
+      -- a seat without a view is neither n nor the send side
+      let apart : (m : ℕ) → life' m ≡ Blank → m ≢ n = λ m blank e. (let f : Spent ≡ Blank = sym (put_here s.life n Spent) ∙ (ap life' (sym e) ∙ blank) in absurd (cc)) in
+      let was : (m : ℕ) → life' m ≡ Blank → s.life m ≡ Blank = λ m blank. sym (put_else s.life n Spent m (apart m blank)) ∙ blank in
+      let not_first : (m : ℕ) → life' m ≡ Blank → m ≢ 0 = λ m blank e. (let f : Live ≡ Blank = sym (ap s.life e ∙ r.lives.send) ∙ was m blank in absurd (cc)) in
       let owns = owns_else g (λ t. s.word (Take t)) (λ t. s.word (Return t)) s.seen n (first_word g) (λ e. omega arith) r.owns in
       let send = alive 0 zero_other r.lives.send in let recv = alive 1 (λ e. omega arith) r.lives.recv in
       let claim : ℕ → ℕ = λ c. s.word (Claim c) in let take : ℕ → ℕ = λ t. s.word (Take t) in let ret : ℕ → ℕ = λ t. s.word (Return t) in let piece : ℕ → ℕ → ℕ = λ d i. s.word (Piece d i) in
@@ -158,6 +167,15 @@ module _ {A : Type 0} where
           takes = r.takes;
           unused = r.unused;
           seen = seen;
+          opened = opened;
+          news = news_kept g s.life life' s.seen seen' s.looks looks' s.pending s.pending s.marks (moved s.marks n)
+              (λ m blank. (
+                was m blank,
+                put_else s.seen n (first_word g) m (apart m blank),
+                put_else s.looks n (λ x. 0) m (apart m blank),
+                refl,
+                put_else (put s.marks 0 (s.marks n ++ s.marks 0)) n [] m (apart m blank) ∙ put_else s.marks 0 (s.marks n ++ s.marks 0) m (not_first m blank),
+              )) r.news;
           owns = owns;
           lives = record {
             send = send;
@@ -167,7 +185,9 @@ module _ {A : Type 0} where
           };
         }
         | inr o ↦ subst (λ (b : Bool). Sound g (joined b g n s)) (sym (ne_eqb (n % 2) 0 o))
-            (recounted g s life' seen' looks' s.send.markers (s.recv.watchers - 1) r (λ m is here. alive m (λ e. o (ap (λ (z : ℕ). z % 2) (sym e) ∙ is.1)) here) seen owns record {
+            (recounted g s life' seen' looks' s.send.markers (s.recv.watchers - 1) r (λ m is here. alive m (λ e. o (ap (λ (z : ℕ). z % 2) (sym e) ∙ is.1)) here) seen opened
+            (news_kept g s.life life' s.seen seen' s.looks looks' s.pending s.pending s.marks s.marks
+            (λ m blank. (was m blank, put_else s.seen n (first_word g) m (apart m blank), put_else s.looks n (λ x. 0) m (apart m blank), refl, refl)) r.news) owns record {
               send = send;
               recv = recv;
               markers_out = counts_else IsMarker s.life n s.send.markers Spent (λ even. o even.1) r.lives.markers_out;

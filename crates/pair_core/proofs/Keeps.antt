@@ -1,8 +1,8 @@
 -- Every allowed move keeps soundness, and every list of them leads to a state that tells its history.
-use Rattle.std.proofs.Common.{◌≡◌, ◌≢◌, ◌⊎◌, ◌↔◌, inl, inr, ⊎_elim, ℕ, ◌+◌, ◌-◌, ◌*◌, ◌/◌, ◌%◌, ◌<◌, ◌≤◌, min, Bool, true, false, ◌==◌, List, [], ◌∷◌, ◌++◌, Option, refl, sym, ap, ◌∙◌, subst, arith}
+use Rattle.std.proofs.Common.{◌≡◌, ℕ, ◌+◌, ◌-◌, ◌/◌, ◌%◌, ◌≤◌, Bool, true, false, ◌==◌, List, [], ◌∷◌, refl, sym, subst, arith}
 use Rattle.gate_word.specs.Words.{round_in}
 use Rattle.part_geometry.specs.Shape.{Shape, IsShape}
-use Rattle.pair_core.specs.Names.{Name, Claim, Release, Take, Piece}
+use Rattle.pair_core.specs.Names.{Claim, Release, Take, Piece}
 use Rattle.pair_core.specs.Core.{Core}
 use Rattle.pair_core.specs.Steps.{enters, entered, counted}
 use Rattle.pair_core.specs.Reading.{laid, is_full}
@@ -23,9 +23,8 @@ use Rattle.pair_core.proofs.ReceiveTakes.{take_part_keeps}
 use Rattle.pair_core.proofs.ReceiveEnds.{return_part_keeps, store_release_keeps}
 use Rattle.pair_core.proofs.Enters.{split_keeps, load_claim_keeps, load_piece_keeps, load_release_keeps, rise_keeps}
 use Rattle.pair_core.proofs.Joining.{join_keeps}
-use Rattle.pair_core.proofs.Full.{full_passes}
 use Rattle.pair_core.proofs.Cut.{some_claims, some_takes}
-use Rattle.pair_core.proofs.Told.{Upto, Told, Tells, if_stored, one_if, stored_is, one_most}
+use Rattle.pair_core.proofs.Told.{Upto, Told, Tells, one_if, stored_is, one_most}
 use Rattle.pair_core.proofs.HistorySend.{Adds, stores_piece_adds, stores_claim_adds, shuts_claim_adds}
 use Rattle.pair_core.proofs.HistoryMark.{tries_claim_adds, lays_piece_adds}
 use Rattle.pair_core.proofs.HistoryRecv.{stores_return_adds, stores_take_adds, takes_part_adds, stores_release_adds}

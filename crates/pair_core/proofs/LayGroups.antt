@@ -8,9 +8,9 @@ use Rattle.part_geometry.specs.Cells.{cells, send_of, recv_of}
 use Rattle.part_geometry.specs.Pieces.{pieces, piece_of, first_part, Touches}
 use Rattle.pair_core.specs.Names.{put, put_pair}
 use Rattle.pair_core.specs.Core.{Slot, Home, Out, has}
-use Rattle.pair_core.specs.Reading.{part_bit, next_round, laid, IsFull, last_round}
+use Rattle.pair_core.specs.Reading.{part_bit, laid, IsFull, last_round}
 use Rattle.pair_core.specs.Steps.{put_slots, left_of}
-use Rattle.pair_core.specs.Sound.{Pieces, Arrived, IsClaimed, IsPending, Claims, IsHeld, Slots, Takes}
+use Rattle.pair_core.specs.Sound.{Pieces, Arrived, IsClaimed, IsPending, Claims, IsHeld, HasRound, Slots, Takes}
 use Rattle.pair_core.specs.declared.view.Mark.{Mark}
 use Rattle.pair_core.specs.declared.view.Pending.{Pending}
 use Rattle.pair_core.specs.declared.view.SendSide.{SendSide}
@@ -200,19 +200,20 @@ slots_fill g v claim take ret f h send recv slot who i p k a inside free same no
       (λ both. unlent (both.0, (both.1.0, kept e c within not both.0 both.1.1)))
       not_held);
   tied = λ e c j low within. slots_cases slot d these (Home k) e c
-      (λ z. z ≡ Home j → laid g (h e (piece_of g c)) (piece_of g c) (send_of g c) ≡ 1 → next_round ret (recv_of g c) ≤ round_in (h e (piece_of g c)) → j ≡ round_in (h e (piece_of g c)))
-      (λ place t at _ _.
+      (λ z. z ≡ Home j → HasRound g ret (h e (piece_of g c)) c → j ≡ round_in (h e (piece_of g c)))
+      (λ place t at _.
       let both = cell c t in
       let is : j ≡ k = cc in
       let round : round_in (h e (piece_of g c)) ≡ send.round =
       subst (λ (z : ℕ). round_in (h z (piece_of g c)) ≡ send.round) (sym place) (subst (λ (z : ℕ). round_in (h d z) ≡ send.round) (sym both.1) (a.round d i ∙ now)) in
       is ∙ (same ∙ sym round))
-      (λ not at one late.
+      (λ not at has_it.
+      let one = has_it.laid in let late = has_it.kept in
       let t = cell_touches g c within in let b = cell_piece g c within in
       let m = a.round e (piece_of g c) in
       let was : laid g (f e (piece_of g c)) (piece_of g c) (send_of g c) ≡ 1 =
       sym (a.rest e (piece_of g c) (send_of g c) b t (λ all. not (all.0, this c all.2 all.1))) ∙ one in
-      r.tied e c j low within at was (omega arith) ∙ sym m);
+      r.tied e c j low within at record { laid = was; kept = omega arith } ∙ sym m);
 }
   where
     d : ℕ

@@ -16,7 +16,7 @@ use Rattle.pair_core.specs.declared.view.Pending.{Pending}
 use Rattle.pair_core.specs.declared.view.Life.TheVariants.{Live}
 use Rattle.pair_core.proofs.Words.{later_or}
 use Rattle.pair_core.proofs.Cut.{touch_range, bit_small, cell_piece, cell_touches, some_claims}
-use Rattle.pair_core.proofs.Frames.{sees, owns_else, unused_or}
+use Rattle.pair_core.proofs.Frames.{sees, opened_else, news_lay, live_not_blank, owns_else, unused_or}
 use Rattle.pair_core.proofs.Claims.{marker_not_one}
 use Rattle.pair_core.proofs.LayGroups.{Fills, fills, laying_of, pieces_fill, arrived_fill, takes_fill, claims_fill, slots_fill}
 
@@ -125,7 +125,9 @@ module _ {A : Type 0} where
         marks = r.marks;
         takes = takes_fill g take f h s.takes d i p fill r.takes;
         unused = unused_or g s.word (Piece d i) b r.unused (λ _. omega arith);
-        seen = sees g s.word s.life s.seen n (Piece d i) w r.seen (λ _. later_or (f d i) b (omega arith));
+        seen = sees g s.word s.life s.seen n (Piece d i) w r.lives.send r.seen (λ _. later_or (f d i) b (omega arith));
+        opened = opened_else s.send s.seen n _ (λ e. let two = pends.marker.0 in omega arith) r.opened;
+        news = news_lay g s.life s.seen s.looks s.pending s.marks n _ _ _ (live_not_blank (s.life n) pends.live) r.news;
         owns = owns_else g take ret s.seen n (put_word (Piece d i) w (s.seen n)) (marker_not_one n pends.marker) r.owns;
         lives = r.lives;
       }

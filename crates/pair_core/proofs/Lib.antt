@@ -43,3 +43,6 @@ pub mod StateLay
 pub mod StateCopy
 pub mod StateReplay
 pub mod StateOne
+pub mod FactsKept
+pub mod FactsMarks
+pub mod Facts

@@ -1,10 +1,10 @@
 -- The sentences of the laws, from the order in which entries come.
-use Rattle.std.proofs.Common.{◌≡◌, ◌≢◌, ◌⊎◌, inl, inr, ⊎_elim, ℕ, zero, suc, ◌+◌, ◌-◌, ◌%◌, ◌<◌, ◌≤◌, List, [], ◌∷◌, ◌++◌, Option, Some, None, refl, sym, ap, ◌∙◌, subst, arith}
+use Rattle.std.proofs.Common.{◌≡◌, ◌≢◌, inl, inr, ⊎_elim, ℕ, suc, ◌+◌, ◌-◌, ◌<◌, ◌≤◌, List, [], ◌∷◌, ◌++◌, refl, ap, subst, arith}
 use Rattle.std.proofs.lemmas.Bool.{cases_lt}
 use Rattle.part_geometry.specs.Shape.{Shape, IsShape}
-use Rattle.part_geometry.specs.Pieces.{pieces, Touches, TouchesRecv}
-use Rattle.pair_core.specs.History.{Entry, Open, Mark, Lay, Out, Listen, Take, Release, Shut, Has, Follows, IsInOrder, Happened}
-use Rattle.pair_core.specs.Laws.{rounds, with_round, opened, shut, listened, released, down, AreInOrder, KeepsOrder, KeepsOrderAlways, StaysSound, TakesItsRound}
+use Rattle.part_geometry.specs.Pieces.{pieces, Touches}
+use Rattle.pair_core.specs.History.{Entry, Open, Mark, Lay, Out, Listen, Take, Release, Shut, Has, Follows, IsInOrder}
+use Rattle.pair_core.specs.Laws.{rounds, opened, shut, listened, released, down, AreInOrder, KeepsOrder, KeepsOrderAlways, StaysSound, TakesItsRound}
 use Rattle.pair_core.proofs.Start.{starts_sound}
 use Rattle.pair_core.proofs.Keeps.{keeps, reaches}
 use Rattle.pair_core.proofs.ReceiveTakes.{take_home}
@@ -16,6 +16,11 @@ at g (x ∷ newer) older e o = at g newer older e o.1
 
 split_at : (g : Shape) (h newer older : List Entry) (e : Entry) → IsInOrder g h → h ≡ newer ++ e ∷ older → Follows g older e × IsInOrder g older
 split_at g h newer older e o is = at g newer older e (subst (IsInOrder g) is o)
+
+-- an entry that stands in a history follows what came before it
+had : (g : Shape) (h : List Entry) (e : Entry) (P : Type 0) → ((past : List Entry) → Follows g past e → P) → IsInOrder g h → Has h e → P
+had g [] e P says o has = absurd has
+had g (x ∷ h) e P says o has = ⊎_elim (λ (same : x ≡ e). says h (subst (Follows g h) same o.0)) (λ (old : Has h e). had g h e P says o.1 old) has
 
 -- what was laid was marked
 lay_marked : (g : Shape) (h : List Entry) (k p i : ℕ) → IsInOrder g h → Has h (Lay k p i) → Has h (Mark k p)
@@ -80,11 +85,16 @@ in_order mk h ks c = (c.n, c.is)
 
 pub keeps_order : (g : Shape) (h : List Entry) → IsInOrder g h → KeepsOrder g h
 keeps_order g h o = record {
+  marks_a_part = λ k p has. had g h (Mark k p) (p < g.send_parts) (λ past f. f.0) o has;
+  lays_where_they_touch = λ k p i has. had g h (Lay k p i) ((i < pieces g) × Touches g i p) (λ past f. (f.0, f.1)) o has;
+  sends_a_piece = λ k i has. had g h (Out k i) (i < pieces g) (λ past f. f.0) o has;
+  takes_a_part = λ k q has. had g h (Take k q) (q < g.recv_parts) (λ past f. f.0) o has;
   piece_goes_out_once = λ k i newer older e. (split_at g h newer older (Out k i) o e).0.1;
   part_is_marked_once = λ k p newer older e. (split_at g h newer older (Mark k p) o e).0.1;
   part_is_laid_once = λ k p i newer older e. (split_at g h newer older (Lay k p i) o e).0.2;
   part_is_taken_once = λ k q newer older e. (split_at g h newer older (Take k q) o e).0.1;
-  out_right_after_a_lay = λ k i newer older e. (split_at g h newer older (Out k i) o e).0.2;
+  out_right_after_a_lay = λ k i newer older e. let f = split_at g h newer older (Out k i) o e in let last = f.0.2 in
+      (last.0, last.1, (subst (IsInOrder g) last.2 f.1).0.1, last.2);
   out_after_all_lays = λ k i newer older e. (split_at g h newer older (Out k i) o e).0.3;
   lay_after_its_mark = λ k p i newer older e. (split_at g h newer older (Lay k p i) o e).0.3;
   out_after_all_marks = λ k i newer older e p t. let f = split_at g h newer older (Out k i) o e in lay_marked g older k p i f.1 (f.0.3 p t);
@@ -103,15 +113,15 @@ keeps_order g h o = record {
   open_after_release = λ k deep newer older e. (split_at g h newer older (Open k) o e).0.3 deep;
 }
 
-pub stays_sound : (g : Shape) → IsShape g → StaysSound g
-stays_sound g v = record {
+pub stays_sound : {A : Type 0} (g : Shape) → IsShape g → StaysSound A g
+stays_sound {A} g v = record {
   first = starts_sound g v;
   kept = λ s m r a. keeps g v s m r a;
   always = λ ms s h happened. (reaches g v ms s h happened).sound;
 }
 
-pub order_always : (g : Shape) → IsShape g → KeepsOrderAlways g
-order_always g v ms s h happened = keeps_order g h (reaches g v ms s h happened).order
+pub order_always : {A : Type 0} (g : Shape) → IsShape g → KeepsOrderAlways A g
+order_always {A} g v ms s h happened = keeps_order g h (reaches g v ms s h happened).order
 
-pub takes_its_round : (g : Shape) → IsShape g → TakesItsRound g
-takes_its_round g v s q c r a inside is = take_home g v s q r a.0 a.1 a.2 a.3 c inside is
+pub takes_its_round : {A : Type 0} (g : Shape) → IsShape g → TakesItsRound A g
+takes_its_round {A} g v s q c x r a inside is = take_home g v s q r a.0 a.1 a.2 a.3 c inside is

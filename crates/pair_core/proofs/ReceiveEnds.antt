@@ -17,7 +17,7 @@ use Rattle.pair_core.specs.declared.view.RecvSide.{RecvSide}
 use Rattle.pair_core.proofs.Words.{bit_lt, empty_round, later_or, later_newer}
 use Rattle.pair_core.proofs.Rounds.{place_lt}
 use Rattle.pair_core.proofs.Cut.{take_word, cell_recv, recv_touched}
-use Rattle.pair_core.proofs.Frames.{sees, owns_here, unused_or, unused_empty}
+use Rattle.pair_core.proofs.Frames.{sees, opened_else, news_else, live_not_blank, owns_here, unused_or, unused_empty}
 use Rattle.pair_core.proofs.ReceiveFacts.{with_part, with_round, with_here, with_else, with_more, piece_le, recv_slots, AreFull, cell_full, not_lent}
 use Rattle.pair_core.proofs.ReceiveOpens.{slots_none, owns_return}
 
@@ -52,13 +52,13 @@ slots_back g claim take ret piece send recv slot who q now full h = let place : 
   home = λ d c low inside l not_held. recv_slots g slot place q x d c (λ z. (k : ℕ) × (z ≡ Home k))
       (λ _ _. (recv.round, refl))
       (λ other. h.home d c low inside l (λ y. not_held (y.0, (y.1.0, y.1.1, with_else ret q (recv_of g c) (λ f. other (y.0, f)) ∙ y.1.2))));
-  tied = λ d c k low inside at has le. recv_slots g slot place q x d c (λ z. z ≡ Home k → k ≡ round_in (piece d (piece_of g c)))
+  tied = λ d c k low inside at has. let le = has.kept in recv_slots g slot place q x d c (λ z. z ≡ Home k → k ≡ round_in (piece d (piece_of g c)))
       (λ e f _. absurd (
       let one : part_bit (with_part ret q) (recv_of g c) ≡ 1 = ap (part_bit (with_part ret q)) f ∙ with_here ret q in
       let word : round_in (with_part ret q (recv_of g c / 32)) ≡ recv.round = with_round ret q (recv_of g c / 32) ∙ (ap (λ (z : ℕ). round_in (ret (z / 32))) f ∙ now) in
       let round = (cell_full g piece recv q c full inside f).round in
       let round' : round_in (piece d (piece_of g c)) ≡ recv.round = ap (λ (z : ℕ). round_in (piece z (piece_of g c))) e ∙ round in omega arith))
-      (λ other at'. h.tied d c k low inside at' has (let a = with_round ret q (recv_of g c / 32) in let b = with_more ret q (recv_of g c) in omega arith)) at;
+      (λ other at'. h.tied d c k low inside at' record { laid = has.laid; kept = let a = with_round ret q (recv_of g c / 32) in let b = with_more ret q (recv_of g c) in omega arith }) at;
 }
 
 progress_release : (g : Shape) (released n : ℕ) (send : SendSide) (recv : RecvSide) → n ≡ recv.round → recv.released ≡ 0 → recv.takes ≡ take_words g → recv.round ≤ send.round
@@ -78,6 +78,7 @@ progress_release g released n send recv now open' all low p = let current = p.cu
   takes = p.takes;
   takes_last = p.takes_last;
   ends_last = λ _. all;
+  ends_once = omega arith;
   current = omega arith;
 }
 
@@ -133,7 +134,9 @@ module _ {A : Type 0} where
         marks = r.marks;
         takes = r.takes;
         unused = unused_or g s.word (Return t) (q % 32) r.unused (λ _. (omega arith, omega arith));
-        seen = sees g s.word s.life s.seen 1 (Return t) w r.seen (λ _. later_or (s.word (Return t)) (q % 32) (omega arith));
+        seen = sees g s.word s.life s.seen 1 (Return t) w r.lives.send r.seen (λ _. later_or (s.word (Return t)) (q % 32) (omega arith));
+        opened = opened_else s.send s.seen 1 _ (λ e. omega arith) r.opened;
+        news = news_else g s.life s.seen s.looks s.pending s.marks 1 _ _ (live_not_blank (s.life 1) r.lives.recv) r.news;
         owns = owns_here g (λ j. s.word (Take j)) (λ j. put_word (Return t) w s.word (Return j)) s.seen (put_word (Return t) w (s.seen 1)) (owns_return g (s.seen 1) s.word t w r.owns);
         lives = r.lives;
       }
@@ -159,7 +162,9 @@ module _ {A : Type 0} where
         marks = r.marks;
         takes = r.takes;
         unused = unused_empty g s.word Release n r.unused;
-        seen = sees g s.word s.life s.seen 1 Release w r.seen (λ _. later_newer (s.word Release) w (omega arith));
+        seen = sees g s.word s.life s.seen 1 Release w r.lives.send r.seen (λ _. later_newer (s.word Release) w (omega arith));
+        opened = opened_else s.send s.seen 1 _ (λ e. omega arith) r.opened;
+        news = news_else g s.life s.seen s.looks s.pending s.marks 1 _ _ (live_not_blank (s.life 1) r.lives.recv) r.news;
         owns = owns_here g (λ j. s.word (Take j)) (λ j. s.word (Return j)) s.seen (put_word Release w (s.seen 1)) record { takes = r.owns.takes; returns = r.owns.returns };
         lives = r.lives;
       }

@@ -97,7 +97,7 @@ module _ {A : Type 0} where
       let k : ℕ = s.recv.round in let d : ℕ = k % g.depth in
       let place = place_lt g.depth k v.depth.0 v.depth.1 in
       let o = in_round g (round_in (s.word Release)) s.send s.recv r.progress active in
-      let later : IsLater (s.seen n (Piece d i)) (s.word (Piece d i)) = r.seen n (Piece d i) live (place, inside) in
+      let later : IsLater (s.seen n (Piece d i)) (s.word (Piece d i)) = r.seen.present n (Piece d i) live (place, inside) in
       let low = later_round (s.seen n (Piece d i)) (s.word (Piece d i)) later in
       let seen_round = full.round in
       let same : round_in (s.word (Piece d i)) ≡ k = piece_round g v (λ c. s.word (Claim c)) (λ e j. s.word (Piece e j)) s.send r.pieces k i o.some inside o.near (omega arith) in

@@ -16,7 +16,7 @@ use Rattle.pair_core.specs.declared.view.Mark.{Mark}
 use Rattle.pair_core.proofs.Words.{empty_round, empty_bit, later_newer}
 use Rattle.pair_core.proofs.Puts.{put_cases, put_cases_both}
 use Rattle.pair_core.proofs.Cut.{some_takes, cell_recv}
-use Rattle.pair_core.proofs.Frames.{sees, owns_here, unused_empty}
+use Rattle.pair_core.proofs.Frames.{sees, opened_else, news_else, live_not_blank, owns_here, unused_empty}
 use Rattle.pair_core.proofs.ReceiveFacts.{part_cases, next_same}
 
 -- where nothing is held before and after, and no next round changes, the slots are where they were
@@ -28,7 +28,7 @@ slots_none g claim take ret take' ret' piece send recv recv' slot who none none'
   lent = h.lent;
   held = λ c inside x. absurd (none' c inside x);
   home = λ d c low inside l _. h.home d c low inside l (λ x. none c inside x.1);
-  tied = λ d c k low inside at full le. h.tied d c k low inside at full (let e = same c inside in omega arith);
+  tied = λ d c k low inside at has. h.tied d c k low inside at record { laid = has.laid; kept = let e = same c inside in let l = has.kept in omega arith };
 }
 
 -- before return word t is stored for round k
@@ -105,6 +105,7 @@ progress_return g released send recv k t w small round p = record {
   takes = omega arith;
   takes_last = λ e. absurd (omega arith);
   ends_last = λ e. absurd (omega arith);
+  ends_once = omega arith;
   current = omega arith;
 }
 
@@ -175,6 +176,7 @@ progress_take g released send recv t small all open' p = record {
   takes = omega arith;
   takes_last = λ _. all;
   ends_last = λ e. absurd (omega arith);
+  ends_once = p.ends_once;
   current = p.current;
 }
 
@@ -193,6 +195,17 @@ takes_same {A} g take take' piece takes same h = record {
 }
 
 module _ {A : Type 0} where
+  -- no next round of a return changes when a return word is stored
+  pub return_next : (g : Shape) (s : Core A) (k t : ℕ) → Sound g s → IsAllowed g s (StoreReturn k t)
+      → (q : ℕ) → q < g.recv_parts → next_round (put (λ j. s.word (Return j)) t (empty k)) q ≡ next_round (λ j. s.word (Return j)) q
+  return_next g s k t r allowed q inside =
+      let small : t < take_words g = allowed.0 in
+      let b = begins g (λ j. s.word (Take j)) (λ j. s.word (Return j)) (round_in (s.word Release)) s.send s.recv k t small r.progress r.receiving allowed.2 in
+      next_same (λ j. s.word (Return j)) t (empty k) q (λ e.
+      let a = empty_round k in let b' = empty_bit k (q % 32) (omega arith) in
+      let c' = b.past t (omega arith) small in let d = b.returned q inside (omega arith) in
+      let d' : bit (s.word (Return t)) (q % 32) ≡ 1 = ap (λ (z : ℕ). bit (s.word (Return z)) (q % 32)) (sym e) ∙ d in omega arith)
+
   pub stores_return_keeps : (g : Shape) → IsShape g → (s : Core A) (k t : ℕ) → Sound g s → IsAllowed g s (StoreReturn k t) → Sound g (after g s (StoreReturn k t))
   stores_return_keeps g v s k t r allowed =
       let small : t < take_words g = allowed.0 in let some = some_takes g v in
@@ -208,16 +221,14 @@ module _ {A : Type 0} where
         slots = slots_none g (λ c. s.word (Claim c)) (λ j. s.word (Take j)) (λ j. s.word (Return j)) (λ j. s.word (Take j)) (put (λ j. s.word (Return j)) t (empty k))
             (λ d i. s.word (Piece d i)) s.send s.recv record { round = k; returns = t + 1; takes = 0; released = 0; watchers = s.recv.watchers } s.slot r.who
             (λ c inside held. b.inactive held.0) (λ c inside held. let e = held.0.0 in absurd (omega arith))
-            (λ c inside. next_same (λ j. s.word (Return j)) t (empty k) (recv_of g c) (λ e.
-            let q : ℕ = recv_of g c in let low = cell_recv g v c inside in
-            let a = empty_round k in let b' = empty_bit k (q % 32) (omega arith) in
-            let c' = b.past t (omega arith) small in let d = b.returned q low (omega arith) in
-            let d' : bit (s.word (Return t)) (q % 32) ≡ 1 = ap (λ (z : ℕ). bit (s.word (Return z)) (q % 32)) (sym e) ∙ d in omega arith))
+            (λ c inside. return_next g s k t r allowed (recv_of g c) (cell_recv g v c inside))
             r.slots;
         marks = r.marks;
         takes = r.takes;
         unused = unused_empty g s.word (Return t) k r.unused;
-        seen = sees g s.word s.life s.seen 1 (Return t) (empty k) r.seen (λ _. later_newer (s.word (Return t)) (empty k) (let a = empty_round k in let c = b.past t (omega arith) small in omega arith));
+        seen = sees g s.word s.life s.seen 1 (Return t) (empty k) r.lives.send r.seen (λ _. later_newer (s.word (Return t)) (empty k) (let a = empty_round k in let c = b.past t (omega arith) small in omega arith));
+        opened = opened_else s.send s.seen 1 _ (λ e. omega arith) r.opened;
+        news = news_else g s.life s.seen s.looks s.pending s.marks 1 _ _ (live_not_blank (s.life 1) r.lives.recv) r.news;
         owns = owns_here g (λ j. s.word (Take j)) (put (λ j. s.word (Return j)) t (empty k)) s.seen (put_word (Return t) (empty k) (s.seen 1)) (owns_return g (s.seen 1) s.word t (empty k) r.owns);
         lives = r.lives;
       }
@@ -248,7 +259,9 @@ module _ {A : Type 0} where
         marks = r.marks;
         takes = takes_same g (λ j. s.word (Take j)) (put (λ j. s.word (Take j)) t (empty n)) (λ d i. s.word (Piece d i)) s.takes same r.takes;
         unused = unused_empty g s.word (Take t) n r.unused;
-        seen = sees g s.word s.life s.seen 1 (Take t) (empty n) r.seen (λ _. later_newer (s.word (Take t)) (empty n) (let a = empty_round n in let c = b.past t (omega arith) small in omega arith));
+        seen = sees g s.word s.life s.seen 1 (Take t) (empty n) r.lives.send r.seen (λ _. later_newer (s.word (Take t)) (empty n) (let a = empty_round n in let c = b.past t (omega arith) small in omega arith));
+        opened = opened_else s.send s.seen 1 _ (λ e. omega arith) r.opened;
+        news = news_else g s.life s.seen s.looks s.pending s.marks 1 _ _ (live_not_blank (s.life 1) r.lives.recv) r.news;
         owns = owns_here g (put (λ j. s.word (Take j)) t (empty n)) (λ j. s.word (Return j)) s.seen (put_word (Take t) (empty n) (s.seen 1)) (owns_take g (s.seen 1) s.word t (empty n) r.owns);
         lives = r.lives;
       }

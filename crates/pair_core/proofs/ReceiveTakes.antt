@@ -5,20 +5,20 @@ use Rattle.std.proofs.lemmas.Bool.{cases_lt, cases_eq, eq-eqb, ne_eqb, and_from,
 use Rattle.gate_word.specs.Words.{round_in}
 use Rattle.part_geometry.specs.Shape.{Shape, IsShape}
 use Rattle.part_geometry.specs.Cells.{cells, send_of, recv_of}
-use Rattle.part_geometry.specs.Pieces.{TouchesRecv}
+use Rattle.part_geometry.specs.Pieces.{piece_of, TouchesRecv}
 use Rattle.pair_core.specs.Names.{Claim, Release, Take, Return, Piece, take_words, put_word}
 use Rattle.pair_core.specs.Core.{Core, Slot, Home, Out, times, is_mark}
 use Rattle.pair_core.specs.Reading.{part_bit, next_round, laid}
 use Rattle.pair_core.specs.Steps.{mark, put_slots}
 use Rattle.pair_core.specs.Moves.{IsRecvActive, IsAllowed, AreSeen, after, TakePart}
-use Rattle.pair_core.specs.Sound.{Receiving, Arrived, Slots, Takes, Sound}
+use Rattle.pair_core.specs.Sound.{Receiving, Arrived, HasRound, Slots, Takes, Sound}
 use Rattle.pair_core.specs.declared.view.SendSide.{SendSide}
 use Rattle.pair_core.specs.declared.view.RecvSide.{RecvSide}
 use Rattle.pair_core.specs.declared.view.Mark.{Mark}
 use Rattle.pair_core.proofs.Words.{bit_lt, later_or}
 use Rattle.pair_core.proofs.Rounds.{place_lt}
 use Rattle.pair_core.proofs.Cut.{take_word, cell_touches}
-use Rattle.pair_core.proofs.Frames.{sees, owns_here, unused_or}
+use Rattle.pair_core.proofs.Frames.{sees, opened_else, news_else, live_not_blank, owns_here, unused_or}
 use Rattle.pair_core.proofs.ReceiveFacts.{with_part, with_round, with_here, with_else, with_more, in_round, seen_full, recv_slots, AreFull, cell_full, not_lent}
 use Rattle.pair_core.proofs.ReceiveOpens.{owns_take}
 
@@ -120,8 +120,8 @@ slots_takes g claim take ret piece send recv slot who q active kept full h = let
           x.1.2,
         ),
       )));
-  tied = λ d c k low inside at has le. h.tied d c k low inside
-      (recv_slots g slot place q (Out 1) d c (λ z. z ≡ Home k → slot d c ≡ Home k) (λ _ _ e. absurd (cc)) (λ _ e. e) at) has le;
+  tied = λ d c k low inside at has. h.tied d c k low inside
+      (recv_slots g slot place q (Out 1) d c (λ z. z ≡ Home k → slot d c ≡ Home k) (λ _ _ e. absurd (cc)) (λ _ e. e) at) has;
 }
 
 module _ {A : Type 0} where
@@ -146,20 +146,29 @@ module _ {A : Type 0} where
         full = seen_full g v s r active.1 q seen;
       }
 
+  -- each buffer of the partition that is taken has the receiver's round
+  pub take_kept : (g : Shape) → IsShape g → (s : Core A) (q : ℕ) → Sound g s → q < g.recv_parts → IsRecvActive g s.recv → part_bit (λ t. s.word (Take t)) q ≡ 0 → AreSeen g (s.seen 1) s.recv.round q
+      → (c : ℕ) → c < cells g → recv_of g c ≡ q
+      → HasRound g (λ t. s.word (Return t)) (s.word (Piece (s.recv.round % g.depth) (piece_of g c))) c × (round_in (s.word (Piece (s.recv.round % g.depth) (piece_of g c))) ≡ s.recv.round)
+  take_kept g v s q r inside active lacks seen c small e =
+      let b = takeable g v s q r inside active lacks seen in
+      let full = cell_full g (λ d i. s.word (Piece d i)) s.recv q c b.full small e in
+      let next_is : next_round (λ t. s.word (Return t)) (recv_of g c) ≡ s.recv.round = ap (next_round (λ t. s.word (Return t))) e ∙ (let f = b.kept in let k = b.back in omega arith) in
+      let round = full.round in
+      (record { laid = full.all (send_of g c) (cell_touches g c small); kept = omega arith }, full.round)
+
   -- the slots of the partition that is taken are home with the receiver's round
   pub take_home : (g : Shape) → IsShape g → (s : Core A) (q : ℕ) → Sound g s → q < g.recv_parts → IsRecvActive g s.recv → part_bit (λ t. s.word (Take t)) q ≡ 0 → AreSeen g (s.seen 1) s.recv.round q
       → (c : ℕ) → c < cells g → recv_of g c ≡ q → s.slot (s.recv.round % g.depth) c ≡ Home s.recv.round
   take_home g v s q r inside active lacks seen c small e =
       let b = takeable g v s q r inside active lacks seen in let d : ℕ = s.recv.round % g.depth in
-      let full = cell_full g (λ d i. s.word (Piece d i)) s.recv q c b.full small e in
+      let kept = take_kept g v s q r inside active lacks seen c small e in
       let lacks' : part_bit (λ t. s.word (Take t)) (recv_of g c) ≡ 0 = ap (part_bit (λ t. s.word (Take t))) e ∙ lacks in
       let h = r.slots.home d c (place_lt g.depth s.recv.round v.depth.0 v.depth.1) small
       (λ x. not_lent g (λ j. s.word (Claim j)) (λ d i. s.word (Piece d i)) s.send s.recv q c b.full small (sym x.0) e x.1)
       (λ x. let one = x.1.1 in omega arith) in
-      let next_is : next_round (λ t. s.word (Return t)) (recv_of g c) ≡ s.recv.round = ap (next_round (λ t. s.word (Return t))) e ∙ (let f = b.kept in let k = b.back in omega arith) in
-      let round = full.round in
-      let same = r.slots.tied d c h.0 (place_lt g.depth s.recv.round v.depth.0 v.depth.1) small h.1 (full.all (send_of g c) (cell_touches g c small)) (omega arith) in
-      h.1 ∙ ap (λ (z : ℕ). Home z) (same ∙ round)
+      let same = r.slots.tied d c h.0 (place_lt g.depth s.recv.round v.depth.0 v.depth.1) small h.1 kept.0 in
+      h.1 ∙ ap (λ (z : ℕ). Home z) (same ∙ kept.1)
 
   pub take_part_keeps : (g : Shape) → IsShape g → (s : Core A) (q : ℕ) (a : A) → Sound g s → IsAllowed g s (TakePart q a) → Sound g (after g s (TakePart q a))
   take_part_keeps g v s q a r allowed =
@@ -178,7 +187,9 @@ module _ {A : Type 0} where
         marks = r.marks;
         takes = takes_more g (λ j. s.word (Take j)) (λ d i. s.word (Piece d i)) s.takes s.recv q a b.some inside b.now lacks b.full r.takes;
         unused = unused_or g s.word (Take t) (q % 32) r.unused (λ _. (omega arith, omega arith));
-        seen = sees g s.word s.life s.seen 1 (Take t) w r.seen (λ _. later_or (s.word (Take t)) (q % 32) (omega arith));
+        seen = sees g s.word s.life s.seen 1 (Take t) w r.lives.send r.seen (λ _. later_or (s.word (Take t)) (q % 32) (omega arith));
+        opened = opened_else s.send s.seen 1 _ (λ e. omega arith) r.opened;
+        news = news_else g s.life s.seen s.looks s.pending s.marks 1 _ _ (live_not_blank (s.life 1) r.lives.recv) r.news;
         owns = owns_here g (λ j. put_word (Take t) w s.word (Take j)) (λ j. s.word (Return j)) s.seen (put_word (Take t) w (s.seen 1)) (owns_take g (s.seen 1) s.word t w r.owns);
         lives = r.lives;
       }

@@ -1,26 +1,26 @@
 -- Storing and shutting a claim word keep soundness.
-use Rattle.std.proofs.Common.{◌≡◌, ◌≢◌, ◌⊎◌, inl, inr, ⊎_elim, ℕ, zero, suc, ◌+◌, ◌-◌, ◌*◌, ◌/◌, ◌%◌, ◌^◌, ◌<◌, ◌≤◌, true, false, true≢false, List, Option, Some, None, refl, sym, ap, ◌∙◌, subst, arith, bit_or}
-use Rattle.std.proofs.lemmas.Bool.{cases_eq, cases_lt}
+use Rattle.std.proofs.Common.{◌≡◌, inl, inr, ℕ, ◌+◌, ◌/◌, ◌%◌, ◌^◌, ◌<◌, true≢false, List, Option, refl, sym, ap, ◌∙◌, arith, bit_or}
+use Rattle.std.proofs.lemmas.Bool.{cases_lt}
 use Rattle.gate_word.specs.Words.{round_in}
 use Rattle.part_geometry.specs.Shape.{Shape, IsShape}
-use Rattle.part_geometry.specs.Cells.{cells, send_of, recv_of}
-use Rattle.part_geometry.specs.Pieces.{pieces, piece_of, first_part, Touches, TouchesRecv}
+use Rattle.part_geometry.specs.Cells.{send_of}
+use Rattle.part_geometry.specs.Pieces.{pieces, piece_of, Touches}
 use Rattle.pair_core.specs.Words.{bit, empty}
-use Rattle.pair_core.specs.Names.{Name, Claim, Release, Take, Return, Piece, claim_words, take_words, put}
-use Rattle.pair_core.specs.Core.{Core, Slot, Home, Out, has, times}
-use Rattle.pair_core.specs.Reading.{part_bit, next_round, laid, IsFull, last_round}
+use Rattle.pair_core.specs.Names.{Name, Claim, Release, Take, Return, Piece, claim_words, put, put_word}
+use Rattle.pair_core.specs.Core.{Core, Slot}
+use Rattle.pair_core.specs.Reading.{part_bit, next_round, laid}
 use Rattle.pair_core.specs.Moves.{IsAllowed, StoreClaim, ShutClaim, after}
-use Rattle.pair_core.specs.Sound.{Sound, Progress, Gates, Pieces, Claims, IsPending, Slots, Marks, IsClaimed, IsOwed, IsLent, IsHeld}
+use Rattle.pair_core.specs.Sound.{Sound, Progress, Gates, Pieces, Claims, Slots, Marks, IsClaimed}
 use Rattle.pair_core.specs.declared.view.Mark.{Mark}
 use Rattle.pair_core.specs.declared.view.Pending.{Pending}
 use Rattle.pair_core.specs.declared.view.Life.{Life}
 use Rattle.pair_core.specs.declared.view.SendSide.{SendSide}
 use Rattle.pair_core.specs.declared.view.RecvSide.{RecvSide}
-use Rattle.pair_core.proofs.Words.{bit_lt, empty_round, empty_bit, later_newer, later_or, round_or, bit_or_here, bit_or_else}
-use Rattle.pair_core.proofs.Puts.{put_here, put_else, put_at}
-use Rattle.pair_core.proofs.Cut.{some_claims, claim_word, cell_send, cell_piece, cell_touches}
-use Rattle.pair_core.proofs.Frames.{sees, owns_else, unused_empty, unused_or}
-use Rattle.pair_core.proofs.SendFacts.{live_unspent, may_shut}
+use Rattle.pair_core.proofs.Words.{empty_round, empty_bit, later_newer, later_or, round_or, bit_or_here, bit_or_else}
+use Rattle.pair_core.proofs.Puts.{put_here, put_at}
+use Rattle.pair_core.proofs.Cut.{cell_piece, cell_touches}
+use Rattle.pair_core.proofs.Frames.{sees, news_else, live_not_blank, owns_else, unused_empty, unused_or}
+use Rattle.pair_core.proofs.SendFacts.{may_shut}
 
 -- the same rounds were marked, where each partition's next round is the same
 marks_same : {A : Type 0} (g : Shape) (claim claim' : ℕ → ℕ) (life : ℕ → Life) (marks : ℕ → List (Mark A)) (who : ℕ → ℕ → ℕ)
@@ -51,6 +51,7 @@ progress_opens g send recv released c inside whole unshut h = record {
   takes = h.takes;
   takes_last = h.takes_last;
   ends_last = h.ends_last;
+  ends_once = h.ends_once;
   current = h.current;
 }
 
@@ -134,7 +135,10 @@ module _ {A : Type 0} where
             (λ _. refl)) r.marks;
         takes = r.takes;
         unused = unused_empty g s.word (Claim c) s.send.round r.unused;
-        seen = sees g s.word s.life s.seen 0 (Claim c) w r.seen (λ _. later_newer (claim c) w (omega arith));
+        seen = sees g s.word s.life s.seen 0 (Claim c) w r.lives.send r.seen (λ _. later_newer (claim c) w (omega arith));
+        opened = λ b clear low. ap (λ (f : Name → ℕ). round_in (f (Claim b))) (put_here s.seen 0 (put_word (Claim c) w (s.seen 0)))
+            ∙ put_at (λ n. s.seen 0 (Claim n)) c w (λ z. round_in z ≡ s.send.round) b (λ _. round) (λ o. r.opened b clear (omega arith));
+        news = news_else g s.life s.seen s.looks s.pending s.marks 0 _ _ (live_not_blank (s.life 0) r.lives.send) r.news;
         owns = owns_else g take ret s.seen 0 _ (λ e. omega arith) r.owns;
         lives = r.lives;
       }
@@ -160,6 +164,7 @@ progress_shuts g send recv released c inside whole is h = record {
   takes = h.takes;
   takes_last = h.takes_last;
   ends_last = h.ends_last;
+  ends_once = h.ends_once;
   current = h.current;
 }
 
@@ -224,7 +229,9 @@ module _ {A : Type 0} where
         marks = marks_same g claim (put claim c w) s.life s.marks r.who (λ p _. same_next p) r.marks;
         takes = r.takes;
         unused = unused_or g s.word (Claim c) 32 r.unused (λ _. inl refl);
-        seen = sees g s.word s.life s.seen 0 (Claim c) w r.seen (λ _. later_or (claim c) 32 (omega arith));
+        seen = sees g s.word s.life s.seen 0 (Claim c) w r.lives.send r.seen (λ _. later_or (claim c) 32 (omega arith));
+        opened = λ b clear low. absurd (omega arith);
+        news = news_else g s.life s.seen s.looks s.pending s.marks 0 _ _ (live_not_blank (s.life 0) r.lives.send) r.news;
         owns = owns_else g take ret s.seen 0 _ (λ e. omega arith) r.owns;
         lives = r.lives;
       }

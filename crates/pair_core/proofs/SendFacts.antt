@@ -1,11 +1,11 @@
 -- What a sound state says of the send side in each of its modes.
-use Rattle.std.proofs.Common.{◌≡◌, ◌≢◌, ◌⊎◌, inl, inr, ⊎_elim, ℕ, zero, suc, ◌+◌, ◌-◌, ◌*◌, ◌/◌, ◌%◌, ◌^◌, ◌<◌, ◌≤◌, Option, Some, None, refl, sym, ap, ◌∙◌, subst, arith}
+use Rattle.std.proofs.Common.{◌≡◌, ◌≢◌, inl, inr, ℕ, zero, suc, ◌+◌, ◌-◌, ◌/◌, ◌%◌, ◌<◌, ◌≤◌, refl, sym, ap, ◌∙◌, subst, arith}
 use Rattle.std.proofs.lemmas.Bool.{cases_eq, cases_lt}
 use Rattle.gate_word.specs.Words.{round_in}
 use Rattle.part_geometry.specs.Shape.{Shape, IsShape}
 use Rattle.part_geometry.specs.Pieces.{pieces, first_part, Touches}
 use Rattle.pair_core.specs.Words.{bit}
-use Rattle.pair_core.specs.Names.{Name, Claim, Release, Take, Return, Piece, claim_words, take_words}
+use Rattle.pair_core.specs.Names.{Claim, Release, Piece, claim_words}
 use Rattle.pair_core.specs.Core.{Core}
 use Rattle.pair_core.specs.Reading.{part_bit, laid, IsFull, last_round}
 use Rattle.pair_core.specs.Moves.{IsSendIdle, MayShut}
@@ -16,14 +16,14 @@ use Rattle.pair_core.specs.declared.view.SendSide.{SendSide}
 use Rattle.pair_core.specs.declared.view.RecvSide.{RecvSide}
 use Rattle.pair_core.proofs.Words.{bit_lt, later_round, later_bit}
 use Rattle.pair_core.proofs.Rounds.{place_lt, last_here, last_step, last_le, last_oldest}
-use Rattle.pair_core.proofs.Cut.{some_claims, touch_range, touch_part, bit_small, claim_word}
+use Rattle.pair_core.proofs.Cut.{some_claims, bit_small, claim_word}
 
 pub live_unspent : (x : Life) → x ≡ Live → x ≢ Spent
 live_unspent x e f = absurd (cc)
 
 -- a seat that has a view has seen no later round of the release than there is
 pub seen_release : {A : Type 0} (g : Shape) (s : Core A) (n : ℕ) → Sound g s → s.life n ≢ Spent → round_in (s.seen n Release) ≤ round_in (s.word Release)
-seen_release {A} g s n r live = later_round (s.seen n Release) (s.word Release) (r.seen n Release live tt)
+seen_release {A} g s n r live = later_round (s.seen n Release) (s.word Release) (r.seen.present n Release live tt)
 
 -- the round's last piece word at the sender's own place
 pub last_now : (depth k : ℕ) → last_round depth k (k % depth) ≡ k
@@ -134,13 +134,13 @@ may_shut {A} g v s r opened unshut may =
       (λ p h.
           let c : ℕ = p / 32 in let saw = may.claimed p h in
           let now = (r.gates.is_open c (omega arith) (omega arith)).0 in
-          let l = r.seen 0 (Claim c) live (claim_word g p h) in
+          let l = r.seen.present 0 (Claim c) live (claim_word g p h) in
           let b = later_bit (s.seen 0 (Claim c)) (s.word (Claim c)) l (saw.0 ∙ sym now) (p % 32) (omega arith) in
           let one = saw.1 in let small = bit_lt (s.word (Claim c)) (p % 32) in omega arith),
       (λ i p h t.
           let d : ℕ = s.send.round % g.depth in let saw = may.full i h in
           let now = r.pieces.current i (omega arith) in
-          let l = r.seen 0 (Piece d i) live (place_lt g.depth s.send.round v.depth.0 v.depth.1, h) in
+          let l = r.seen.present 0 (Piece d i) live (place_lt g.depth s.send.round v.depth.0 v.depth.1, h) in
           let j = bit_small g v i p h t in
           let b = later_bit (s.seen 0 (Piece d i)) (s.word (Piece d i)) l (saw.round ∙ sym now) (p - first_part g i) (omega arith) in
           let one = saw.all p t in let small = bit_lt (s.word (Piece d i)) (p - first_part g i) in omega arith),

@@ -1,25 +1,25 @@
 -- Storing a piece word keeps soundness.
-use Rattle.std.proofs.Common.{◌≡◌, ◌≢◌, ◌⊎◌, inl, inr, ⊎_elim, ℕ, zero, suc, ◌+◌, ◌-◌, ◌*◌, ◌/◌, ◌%◌, ◌^◌, ◌<◌, ◌≤◌, List, Option, Some, None, refl, sym, ap, ◌∙◌, subst, arith}
+use Rattle.std.proofs.Common.{◌≡◌, ◌≢◌, ⊎_elim, ℕ, ◌+◌, ◌-◌, ◌/◌, ◌%◌, ◌<◌, List, Option, refl, sym, ap, subst, arith}
 use Rattle.gate_word.specs.Words.{round_in}
 use Rattle.part_geometry.specs.Shape.{Shape, IsShape}
-use Rattle.part_geometry.specs.Cells.{cells, send_of, recv_of}
-use Rattle.part_geometry.specs.Pieces.{pieces, piece_of, first_part, Touches, TouchesRecv}
-use Rattle.pair_core.specs.Words.{bit, empty}
-use Rattle.pair_core.specs.Names.{Name, Claim, Release, Take, Return, Piece, claim_words, take_words, put_pair}
-use Rattle.pair_core.specs.Core.{Core, Slot, Home, Out, times}
-use Rattle.pair_core.specs.Reading.{part_bit, next_round, laid, IsFull, last_round}
-use Rattle.pair_core.specs.Moves.{IsAllowed, StorePiece, after, IsRecvActive}
-use Rattle.pair_core.specs.Sound.{Sound, Progress, Gates, Pieces, Arrived, Claims, Slots, Takes, IsClaimed, IsLent, IsHeld}
+use Rattle.part_geometry.specs.Cells.{send_of}
+use Rattle.part_geometry.specs.Pieces.{pieces, piece_of, first_part, Touches}
+use Rattle.pair_core.specs.Words.{empty}
+use Rattle.pair_core.specs.Names.{Claim, Release, Take, Return, Piece, put_pair}
+use Rattle.pair_core.specs.Core.{Core, Slot}
+use Rattle.pair_core.specs.Reading.{part_bit, laid, IsFull, last_round}
+use Rattle.pair_core.specs.Moves.{IsAllowed, StorePiece, after}
+use Rattle.pair_core.specs.Sound.{Sound, Progress, Gates, Pieces, Arrived, Claims, Slots, Takes, HasRound}
 use Rattle.pair_core.specs.declared.view.Mark.{Mark}
 use Rattle.pair_core.specs.declared.view.Pending.{Pending}
 use Rattle.pair_core.specs.declared.view.Life.{Life}
 use Rattle.pair_core.specs.declared.view.SendSide.{SendSide}
 use Rattle.pair_core.specs.declared.view.RecvSide.{RecvSide}
 use Rattle.pair_core.proofs.Words.{bit_lt, empty_round, empty_bit, later_newer}
-use Rattle.pair_core.proofs.Puts.{put_pair_here, put_pair_else, put_pair_at}
+use Rattle.pair_core.proofs.Puts.{put_pair_else, put_pair_at}
 use Rattle.pair_core.proofs.Rounds.{place_lt}
-use Rattle.pair_core.proofs.Cut.{some_claims, bit_small, touch_part, cell_piece, cell_touches}
-use Rattle.pair_core.proofs.Frames.{sees, owns_else, unused_empty}
+use Rattle.pair_core.proofs.Cut.{bit_small, cell_piece, cell_touches}
+use Rattle.pair_core.proofs.Frames.{sees, news_else, live_not_blank, owns_else, unused_empty}
 use Rattle.pair_core.proofs.SendFacts.{live_unspent, seen_release, IsNext, next_first, next_more}
 
 -- the send side with piece i of round k stored
@@ -47,6 +47,7 @@ progress_piece g claim piece send recv released k i inside n h = record {
   takes = h.takes;
   takes_last = h.takes_last;
   ends_last = h.ends_last;
+  ends_once = h.ends_once;
   current = h.current;
 }
 
@@ -102,8 +103,8 @@ slots_piece g v claim take ret piece send recv slot who released k i n h = recor
   held = h.held;
   home = λ d c a b _ held. h.home d c a b (λ both. n.unclaimed (send_of g c) both.1.0) held;
   tied = λ d c j a b at.
-      put_pair_at piece (k % g.depth) i (empty k) (λ z. laid g z (piece_of g c) (send_of g c) ≡ 1 → next_round ret (recv_of g c) ≤ round_in z → j ≡ round_in z) d (piece_of g c)
-      (λ _ e one. let z = no_part g v k (piece_of g c) (send_of g c) (cell_piece g c b) (cell_touches g c b) in absurd (omega arith))
+      put_pair_at piece (k % g.depth) i (empty k) (λ z. HasRound g ret z c → j ≡ round_in z) d (piece_of g c)
+      (λ _ e has. let one = has.laid in let z = no_part g v k (piece_of g c) (send_of g c) (cell_piece g c b) (cell_touches g c b) in absurd (omega arith))
       (λ _. h.tied d c j a b at);
 }
 
@@ -140,8 +141,10 @@ module _ {A : Type 0} where
         marks = r.marks;
         takes = takes_piece g v claim take piece s.send s.takes released k i n r.takes;
         unused = unused_empty g s.word (Piece (k % g.depth) i) k r.unused;
-        seen = sees g s.word s.life s.seen 0 (Piece (k % g.depth) i) (empty k) r.seen
+        seen = sees g s.word s.life s.seen 0 (Piece (k % g.depth) i) (empty k) r.lives.send r.seen
             (λ _. later_newer (s.word (Piece (k % g.depth) i)) (empty k) (let a = n.older in let b = n.some in let c = empty_round k in let d = v.depth.0 in omega arith));
+        opened = λ c _ low. absurd (omega arith);
+        news = news_else g s.life s.seen s.looks s.pending s.marks 0 _ _ (live_not_blank (s.life 0) r.lives.send) r.news;
         owns = owns_else g take ret s.seen 0 _ (λ e. omega arith) r.owns;
         lives = r.lives;
       }

@@ -1,26 +1,23 @@
 -- The first state is sound.
-use Rattle.std.proofs.Common.{◌≡◌, ◌≢◌, ◌⊎◌, inl, inr, ⊎_elim, ℕ, zero, suc, ◌+◌, ◌-◌, ◌*◌, ◌/◌, ◌%◌, ◌^◌, ◌<◌, ◌≤◌, min, Bool, true, false, List, [], Option, Some, None, refl, sym, ap, ◌∙◌, subst, arith}
-use Rattle.std.specs.Int.{bit_at}
+use Rattle.std.proofs.Common.{◌≡◌, ◌≢◌, inl, inr, ℕ, ◌+◌, ◌-◌, ◌*◌, ◌/◌, ◌%◌, ◌^◌, ◌<◌, ◌≤◌, min, Bool, true, false, [], refl, ap, ◌∙◌, arith}
 use Rattle.std.specs.Prelude.{nat_lt, if◌then◌else◌}
 use Rattle.std.proofs.lemmas.Bool.{cases_eq, cases_lt, lt-ltb, le-ltb}
-use Rattle.std.proofs.lemmas.Nat.{pow_below, pow_pos}
+use Rattle.std.proofs.lemmas.Nat.{pow_below}
 use Rattle.std.proofs.lemmas.Nat.Bits.{bit_at_ones, bit_at_ones_above, bit_at-zero}
 use Rattle.gate_word.specs.Words.{word_of, round_in, Has}
 use Rattle.gate_word.proofs.Packing.{made}
 use Rattle.part_geometry.specs.Shape.{Shape, IsShape}
-use Rattle.part_geometry.specs.Cells.{cells, send_of, recv_of}
-use Rattle.part_geometry.specs.Pieces.{pieces, need, need_count, piece_of, first_part, Touches}
+use Rattle.part_geometry.specs.Pieces.{pieces, need, need_count, piece_of, first_part}
 use Rattle.pair_core.specs.Words.{bit}
-use Rattle.pair_core.specs.Names.{Name, Claim, Release, Take, Return, Piece, claim_words, take_words, Fits}
-use Rattle.pair_core.specs.Core.{Core, Slot, Home, Out, IsMarker, IsWatcher, times}
-use Rattle.pair_core.specs.Reading.{part_bit, next_round, laid, IsFull, last_round}
+use Rattle.pair_core.specs.Names.{Name, Claim, Release, Take, Return, Piece, Fits}
+use Rattle.pair_core.specs.Core.{IsMarker, IsWatcher}
+use Rattle.pair_core.specs.Reading.{IsFull}
 use Rattle.pair_core.specs.Moves.{first_state, first_word, part_mask}
-use Rattle.pair_core.specs.Sound.{Sound, Counts, IsUsed, occurrences}
+use Rattle.pair_core.specs.Sound.{Sound, Counts, IsUsed}
 use Rattle.pair_core.specs.declared.view.Life.{Life}
 use Rattle.pair_core.specs.declared.view.Life.TheVariants.{Live, Blank}
 use Rattle.pair_core.proofs.Words.{has_bit, has_shut, has_open, later_refl}
-use Rattle.pair_core.proofs.Rounds.{last_le}
-use Rattle.pair_core.proofs.Cut.{some_claims, some_takes, some_pieces, claim_word, take_word, touch_range, cell_piece}
+use Rattle.pair_core.proofs.Cut.{some_claims, some_takes, some_pieces, touch_range, cell_piece}
 use Rattle.part_geometry.proofs.PieceFacts.{need_count-le}
 
 -- a mask of up to 32 bits
@@ -136,6 +133,7 @@ starts_sound {A} g v =
         takes = omega arith;
         takes_last = λ _. refl;
         ends_last = λ _. refl;
+        ends_once = omega arith;
         current = omega arith;
       };
       gates = record {
@@ -173,7 +171,7 @@ starts_sound {A} g v =
         lent = λ c h o. let z = o.0.0 in absurd (omega arith);
         held = λ c h o. let z = o.0.1 in absurd (omega arith);
         home = λ d c _ _ _ _. (0, refl);
-        tied = λ d c k h l at _ _. let e = (piece_full g v d (piece_of g c) (cell_piece g c l)).round in let f : 0 ≡ k = cc in omega arith;
+        tied = λ d c k h l at _. let e = (piece_full g v d (piece_of g c) (cell_piece g c l)).round in let f : 0 ≡ k = cc in omega arith;
       };
       marks = record {
         own = λ n k p h. absurd (omega arith);
@@ -185,7 +183,9 @@ starts_sound {A} g v =
         out = λ k q i p h. absurd (omega arith);
       };
       unused = clean g v;
-      seen = λ n x _ _. later_refl (first_word g x);
+      seen = record { present = λ n x _ _. later_refl (first_word g x); first = λ n x _. later_refl (first_word g x) };
+      opened = λ c unshut l. absurd (omega arith);
+      news = λ n _. record { seen = λ x _. refl; looks = λ x _. refl; pending = refl; marks = refl };
       owns = record { takes = λ t _. refl; returns = λ t _. refl };
       lives = record {
         send = low_seat 0 (omega arith);

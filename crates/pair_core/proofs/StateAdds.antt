@@ -72,13 +72,13 @@ fresh_view : (g : Shape) (v : Seat) (s t : Core Plain) → IsFresh g v → IsBla
     → t.pending v.seat ≡ s.pending v.seat → t.marks v.seat ≡ s.marks v.seat → IsView g v t
 fresh_view g v s t fresh blank live seen looks pending marks = record {
   live = live;
-  seen = λ x fits. fresh.seen x fits ∙ (sym (blank.seen x fits) ∙ sym (ap (λ (f : Name → ℕ). f x) seen));
+  seen = λ x fits. fresh.seen x fits ∙ (sym (blank.new.seen x fits) ∙ sym (ap (λ (f : Name → ℕ). f x) seen));
   looks = λ x fits.
-      let none : t.looks v.seat x ≡ 0 = ap (λ (f : Name → ℕ). f x) looks ∙ blank.looks x fits in
+      let none : t.looks v.seat x ≡ 0 = ap (λ (f : Name → ℕ). f x) looks ∙ blank.new.looks x fits in
       let zero' : get_or v.looks.items (number g x) 0 ≡ 0 = ap (λ (l : List ℕ). get_or l (number g x) 0) fresh.looks ∙ get_or-replicate (word_count g) (number g x) 0 0 (number_lt g x fits) in
       omega arith;
-  pending = fresh.pending ∙ (sym blank.pending ∙ sym pending);
-  marks = fresh.marks ∙ (sym blank.marks ∙ sym marks);
+  pending = fresh.pending ∙ (sym blank.new.pending ∙ sym pending);
+  marks = fresh.marks ∙ (sym blank.new.marks ∙ sym marks);
 }
 
 lives_else : (n : ℕ) (s t : Core Plain) → t.life ≡ put s.life n Live → t.seen ≡ s.seen → t.looks ≡ s.looks → t.pending ≡ s.pending → t.marks ≡ s.marks → (m : ℕ) → m ≢ n → SameAt m s t

@@ -68,10 +68,7 @@ first_stands g words slots send recv seats takes v w is listed spots a b none fv
           let not_zero : n ≢ 0 = (λ e. absent 0 v refl (zero' ∙ sym e)) in let not_one : n ≢ 1 = (λ e. absent 1 w refl (one ∙ sym e)) in
           record {
             blank = rw (le-ltb n 2 (omega arith)) refl;
-            seen = λ x fits. refl;
-            looks = λ x fits. refl;
-            pending = refl;
-            marks = refl;
+            new = record { seen = λ x fits. refl; looks = λ x fits. refl; pending = refl; marks = refl };
           };
       takes_are = none;
     })

@@ -99,10 +99,12 @@ view_same g v s t same view = record {
 pub blank_same : (g : Shape) (n : ℕ) (s t : Core Plain) → SameAt n s t → IsBlank g n s → IsBlank g n t
 blank_same g n s t same blank = record {
   blank = same.life ∙ blank.blank;
-  seen = λ x fits. ap (λ (f : Name → ℕ). f x) same.seen ∙ blank.seen x fits;
-  looks = λ x fits. ap (λ (f : Name → ℕ). f x) same.looks ∙ blank.looks x fits;
-  pending = same.pending ∙ blank.pending;
-  marks = same.marks ∙ blank.marks;
+  new = let new = blank.new in record {
+    seen = λ x fits. ap (λ (f : Name → ℕ). f x) same.seen ∙ new.seen x fits;
+    looks = λ x fits. ap (λ (f : Name → ℕ). f x) same.looks ∙ new.looks x fits;
+    pending = same.pending ∙ new.pending;
+    marks = same.marks ∙ new.marks;
+  };
 }
 
 -- the seats that are kept have their views, and the others are blank

@@ -1,5 +1,6 @@
 -- The sides as they stand after their steps.
 use Rattle.std.proofs.Common.{◌≡◌, ◌⊎◌, ◌∙◌, ℕ, ◌+◌, ◌%◌, ◌<◌, ◌≤◌, ◌^◌, ◌/◌, ◌==◌, ◌∷◌, bit_or, ap, subst}
+use Rattle.part_geometry.specs.declared.TheConstants.{LAST_ROUND}
 use Rattle.part_geometry.specs.Shape.{Shape}
 use Rattle.part_geometry.specs.Pieces.{pieces}
 use Rattle.gate_word.specs.Words.{round_in}
@@ -7,14 +8,14 @@ use Rattle.pair_core.specs.Words.{empty}
 use Rattle.pair_core.specs.Names.{Claim, Release, Take, Return, Piece, claim_words, take_words}
 use Rattle.pair_core.specs.Core.{Core, Home, Out}
 use Rattle.part_geometry.specs.Cells.{recv_of}
-use Rattle.pair_core.specs.Moves.{IsAllowed, StorePiece, StoreClaim, StoreReturn, StoreTake, ShutClaim, StoreRelease, TakePart, ReturnPart, MayShut, AreSeen, last_round_number}
+use Rattle.pair_core.specs.Moves.{IsAllowed, StorePiece, StoreClaim, StoreReturn, StoreTake, ShutClaim, StoreRelease, TakePart, ReturnPart, MayShut, AreSeen}
 use Rattle.pair_core.specs.Reading.{part_bit}
 use Rattle.pair_core.specs.Steps.{wrote, stores_piece, stores_claim, stores_return, stores_take, shuts_claim, releases, mark, put_slots, takes_part, returns_part}
 use Rattle.pair_core.specs.State.{Plain}
 use Rattle.pair_core.specs.declared.view.SendSide.{SendSide}
 use Rattle.pair_core.specs.declared.view.RecvSide.{RecvSide}
 
-pub piece_allowed : (g : Shape) (s : Core Plain) (d : SendSide) (k i : ℕ) → d ≡ s.send → i < pieces g → k ≤ last_round_number → k ≤ round_in (s.seen 0 Release) + g.depth
+pub piece_allowed : (g : Shape) (s : Core Plain) (d : SendSide) (k i : ℕ) → d ≡ s.send → i < pieces g → k ≤ LAST_ROUND → k ≤ round_in (s.seen 0 Release) + g.depth
     → ((i ≡ 0) × (d.shut ≡ claim_words g) × (k ≡ d.round + 1)) ⊎ ((1 ≤ i) × (i ≡ d.pieces) × (k ≡ d.round)) → IsAllowed g s (StorePiece k i)
 piece_allowed g s d k i e inside last room next =
     (inside, last, room, subst (λ (d : SendSide). ((i ≡ 0) × (d.shut ≡ claim_words g) × (k ≡ d.round + 1)) ⊎ ((1 ≤ i) × (i ≡ d.pieces) × (k ≡ d.round))) e next)
@@ -35,7 +36,7 @@ claim_shown Shown s d k c w e is now shown =
     subst (λ (d : SendSide). Shown (record (wrote 0 (Claim c) (empty s.send.round) s) { send = record d { opened = c + 1 } })) e
     (subst (λ (z : ℕ). Shown (record (wrote 0 (Claim c) z s) { send = record d { opened = c + 1 } })) (is ∙ ap empty (now ∙ ap (λ (z : SendSide). z.round) e)) shown)
 
-pub return_allowed : (g : Shape) (s : Core Plain) (d : RecvSide) (k t : ℕ) → d ≡ s.recv → t < take_words g → k ≤ last_round_number
+pub return_allowed : (g : Shape) (s : Core Plain) (d : RecvSide) (k t : ℕ) → d ≡ s.recv → t < take_words g → k ≤ LAST_ROUND
     → ((t ≡ 0) × (d.released ≡ 1) × (k ≡ d.round + 1)) ⊎ ((1 ≤ t) × (t ≡ d.returns) × (k ≡ d.round)) → IsAllowed g s (StoreReturn k t)
 return_allowed g s d k t e inside last next =
     (inside, last, subst (λ (d : RecvSide). ((t ≡ 0) × (d.released ≡ 1) × (k ≡ d.round + 1)) ⊎ ((1 ≤ t) × (t ≡ d.returns) × (k ≡ d.round))) e next)

@@ -1,12 +1,12 @@
 -- What a history has, as the state shows it: of each sort of entry and each partition or piece, the rounds from 1 on below
 -- a bound that the state has.
-use Rattle.std.proofs.Common.{◌≡◌, ◌≢◌, ◌⊎◌, ◌↔◌, inl, inr, ⊎_elim, ℕ, ◌+◌, ◌-◌, ◌/◌, ◌%◌, ◌<◌, ◌≤◌, min, Bool, true, false, ◌==◌, List, [], ◌∷◌, ◌++◌, refl, sym, ap, ◌∙◌, subst, arith}
+use Rattle.std.proofs.Common.{◌≡◌, ◌≢◌, ◌↔◌, inl, inr, ⊎_elim, ℕ, ◌+◌, ◌-◌, ◌%◌, ◌<◌, ◌≤◌, min, Bool, true, false, List, ◌∷◌, refl, sym, ap, subst, arith}
 use Rattle.std.specs.Prelude.{nat_lt, if◌then◌else◌}
 use Rattle.std.proofs.lemmas.Bool.{cases_eq, lt-ltb, le-ltb}
 use Rattle.gate_word.specs.Words.{round_in}
 use Rattle.part_geometry.specs.Shape.{Shape}
 use Rattle.part_geometry.specs.Pieces.{pieces, Touches}
-use Rattle.pair_core.specs.Names.{Name, Claim, Release, Take, Return, Piece, take_words}
+use Rattle.pair_core.specs.Names.{Claim, Release, Take, Piece, take_words}
 use Rattle.pair_core.specs.Core.{Core}
 use Rattle.pair_core.specs.Reading.{next_round, laid, is_full}
 use Rattle.pair_core.specs.History as entry

@@ -1,14 +1,14 @@
 -- What a word shows after it was stored empty or a bit was added. Above this file words are opaque.
-use Rattle.std.proofs.Common.{◌≡◌, ◌≢◌, ◌⊎◌, inl, inr, ⊎_elim, ℕ, zero, suc, ◌+◌, ◌*◌, ◌/◌, ◌%◌, ◌^◌, ◌<◌, ◌≤◌, max, min, Bool, true, false, true≢false, ◌==◌, refl, sym, ap, ◌∙◌, subst, arith, bit_or, add-zero}
-use Rattle.std.specs.Prelude.{IsBitSet, IsTrue, if◌then◌else◌}
-use Rattle.std.proofs.lemmas.Nat.{or_shr, or_shifted, pow_below, div-mul-add, mod-mul-add, pow_pos, or_comm}
+use Rattle.std.proofs.Common.{◌≡◌, ◌≢◌, inl, inr, ℕ, ◌+◌, ◌*◌, ◌/◌, ◌%◌, ◌^◌, ◌<◌, ◌≤◌, Bool, true, false, true≢false, sym, ap, ◌∙◌, arith, bit_or, add-zero}
+use Rattle.std.specs.Prelude.{IsTrue}
+use Rattle.std.proofs.lemmas.Nat.{or_shr, pow_below, div-mul-add, or_comm}
 use Rattle.std.proofs.lemmas.Nat.Bits.{bit_at_cat_low, bit_at_above, bit_at-zero, bit_at_or, bit_at-pow_same, bit_at-pow_other, bit_at-lt}
 use Rattle.std.proofs.Math.Nat.{div-eq_of_lt}
 use Rattle.std.specs.Int.{bit_at}
 use Rattle.std.proofs.lemmas.Bool.{cases_lt, cases_eq, eq-eqb, eqb-true}
 use Rattle.gate_word.proofs.BitSets.{set_one, one_set}
 use Rattle.gate_word.specs.Words.{word_of, round_in, shut_in, bits_in, Has}
-use Rattle.gate_word.specs.Order.{IsLater, Follows, AreIn}
+use Rattle.gate_word.specs.Order.{IsLater}
 use Rattle.pair_core.specs.Words.{bit, empty}
 
 pub bit_lt : (w j : ℕ) → bit w j < 2

@@ -1,6 +1,7 @@
 -- The state of a pair. Words go by name, and views by part: each part is a function of the seat's number.
 -- Seat 0 is the send side, seat 1 the receive side, an even number from 2 on a marker, an odd one from 3 on a watcher.
-use Rattle.std.specs.Prelude.{◌≡◌, ◌⊎◌, ℕ, suc, ◌+◌, ◌%◌, ◌<◌, ◌≤◌, Bool, ◌==◌, ◌&&◌, ◌||◌, false, if◌then◌else◌, List, [], ◌∷◌, Option}
+use Rattle.std.specs.Prelude.{◌≡◌, ℕ, ◌+◌, ◌%◌, ◌≤◌, Bool, ◌==◌, ◌&&◌, ◌||◌, false, if◌then◌else◌, List}
+use Rattle.std.specs.Prelude.{[], ◌∷◌, Option}
 use Rattle.pair_core.specs.Names.{Name}
 use Rattle.pair_core.specs.declared.view.Mark.{Mark}
 use Rattle.pair_core.specs.declared.view.Pending.{Pending}

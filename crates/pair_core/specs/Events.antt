@@ -3,7 +3,9 @@ use Rattle.std.specs.Prelude.{◌≡◌, ℕ, ◌/◌, ◌%◌, List, [], ◌∷
 use Rattle.part_geometry.specs.Shape.{Shape}
 use Rattle.pair_core.specs.Names.{Claim, Release, Take, Return, Piece, number}
 use Rattle.pair_core.specs.Core.{Core}
-use Rattle.pair_core.specs.Moves.{Move, StorePiece, StoreClaim, LoadClaim, LoadPiece, LoadRelease, ShutClaim, TryClaim, LayPiece, StoreReturn, StoreTake, TakePart, ReturnPart, StoreRelease, Split, Rise, Join, IsAllowed, after}
+use Rattle.pair_core.specs.Moves.{Move, StorePiece, StoreClaim, LoadClaim, LoadPiece, LoadRelease, ShutClaim, TryClaim}
+use Rattle.pair_core.specs.Moves.{LayPiece, StoreReturn, StoreTake, TakePart, ReturnPart, StoreRelease, Split, Rise}
+use Rattle.pair_core.specs.Moves.{Join, IsAllowed, after}
 use Rattle.pair_core.specs.History.{Entry, Out, entries}
 use Rattle.pair_core.specs.History.{Take as Taken}
 use Rattle.pair_core.specs.State.{Plain}
@@ -18,8 +20,8 @@ pub record Has (e : Event) (seat kind word : ℕ) : Type 0 where
   pub kind_is : e.kind ≡ kind
   pub on : e.word ≡ word
 
--- an event is a move: the kinds have the numbers 1 to 13. A field that isn't named may hold anything. No event is a move
--- that changes views alone.
+-- an event is a move: the kinds have the numbers 1 to 13. A field that isn't named may hold anything. No event is a
+-- move that changes views alone.
 abbrev pub Reads : {A : Type 0} → Shape → Core A → Event → Move A → Type 0
 Reads g s e (StorePiece k i) = Has e 0 1 (number g (Piece (k % g.depth) i)) × (e.round ≡ k)
 Reads g s e (StoreClaim k c) = Has e 0 2 (number g (Claim c)) × (e.round ≡ k)
@@ -28,7 +30,8 @@ Reads g s e (LoadPiece n d i) = Has e n 4 (number g (Piece d i))
 Reads g s e LoadRelease = Has e 0 5 (number g Release)
 Reads g s e (ShutClaim c) = Has e 0 6 (number g (Claim c))
 Reads g s e (TryClaim n p a) = Has e n 7 (number g (Claim (p / 32))) × (e.partition ≡ p)
-Reads g s e (LayPiece n p i) = (x : Pending) × (s.pending n ≡ Some x) × Has e n 8 (number g (Piece (x.round % g.depth) i)) × (e.partition ≡ p)
+Reads g s e (LayPiece n p i) =
+    (x : Pending) × (s.pending n ≡ Some x) × Has e n 8 (number g (Piece (x.round % g.depth) i)) × (e.partition ≡ p)
 Reads g s e (StoreReturn k t) = Has e 1 9 (number g (Return t)) × (e.round ≡ k)
 Reads g s e (StoreTake k t) = Has e 1 10 (number g (Take t)) × (e.round ≡ k)
 Reads g s e (TakePart q a) = Has e 1 11 (number g (Take (q / 32))) × (e.partition ≡ q)
@@ -49,11 +52,13 @@ take_in [] = None
 take_in (Taken k q ∷ es) = Some (k, q)
 take_in (e ∷ es) = take_in es
 
--- What became of an event. Where it was made, it is a move that was allowed, the new state shows the core after it, and what
--- went out or was taken is told. Where it isn't allowed, it is no move that is, and the new state shows the same core.
+-- What became of an event. Where it was made, it is a move that was allowed, the new state shows the core after it, and
+-- what went out or was taken is told. Where it isn't allowed, it is no move that is, and the new state shows the same
+-- core.
 abbrev pub Becomes : Shape → Event → (Core Plain → Type 0) → Core Plain → Applied → Type 0
 Becomes g e Shown s (Done out take) =
-    (m : Move Plain) × Reads g s e m × IsAllowed g s m × Shown (after g s m) × (out ≡ out_in (entries g s m)) × (take ≡ take_in (entries g s m))
+    (m : Move Plain) × Reads g s e m × IsAllowed g s m × Shown (after g s m) × (out ≡ out_in (entries g s m))
+    × (take ≡ take_in (entries g s m))
 Becomes g e Shown s NotAllowed = ((m : Move Plain) → Reads g s e m → ¬ IsAllowed g s m) × Shown s
 
 abbrev pub quiet : Applied

@@ -1,26 +1,20 @@
 -- What holds of every list of moves from the first state, in the terms of its history.
-use Rattle.std.specs.Prelude.{◌≡◌, ◌≢◌, ◌⊎◌, ℕ, zero, suc, ◌+◌, ◌-◌, ◌%◌, ◌<◌, ◌≤◌, List, [], ◌∷◌, ◌++◌, Option, Some, None}
-use Rattle.part_geometry.specs.Shape.{Shape, IsShape}
+use Rattle.std.specs.Prelude.{◌≡◌, ℕ, zero, suc, ◌-◌, ◌%◌, ◌<◌, ◌≤◌, List, [], ◌∷◌, ◌++◌, Option, Some}
+use Rattle.std.specs.Prelude.{None}
+use Rattle.part_geometry.specs.Shape.{Shape}
 use Rattle.part_geometry.specs.Cells.{cells, recv_of}
 use Rattle.part_geometry.specs.Pieces.{pieces, Touches, TouchesRecv}
-use Rattle.pair_core.specs.Core.{Core, Slot, Home}
+use Rattle.pair_core.specs.Core.{Core, Home}
 use Rattle.pair_core.specs.Moves.{Move, TakePart, IsAllowed, after, first_state}
 use Rattle.pair_core.specs.Sound.{Sound}
 use Rattle.pair_core.specs.History.{Entry, Open, Mark, Lay, Out, Listen, Take, Release, Shut, Has, Happened}
 
--- a core whose marks keep nothing else
-abbrev pub Plain : Type 0
-Plain = Core (Unit {0})
-
-abbrev pub PlainMove : Type 0
-PlainMove = Move (Unit {0})
-
--- soundness: the first state has it, each allowed move keeps it from any state that has it, and so each list of allowed moves
--- from the first state leads to a state that has it
-pub record StaysSound (g : Shape) : Type 0 where
-  pub first : Sound g (first_state {A = Unit {0}} g)
-  pub kept : (s : Plain) (m : PlainMove) → Sound g s → IsAllowed g s m → Sound g (after g s m)
-  pub always : (ms : List PlainMove) (s : Plain) (h : List Entry) → Happened g ms s h → Sound g s
+-- soundness: the first state has it, each allowed move keeps it from any state that has it, and so each list of allowed
+-- moves from the first state leads to a state that has it; whatever a layer above keeps with a mark
+pub record StaysSound (A : Type 0) (g : Shape) : Type 0 where
+  pub first : Sound g (first_state {A = A} g)
+  pub kept : (s : Core A) (m : Move A) → Sound g s → IsAllowed g s m → Sound g (after g s m)
+  pub always : (ms : List (Move A)) (s : Core A) (h : List Entry) → Happened g ms s h → Sound g s
 
 -- wherever an entry stands in a history, this holds of what came before it
 abbrev pub Where : List Entry → Entry → (List Entry → Type 0) → Type 0
@@ -61,13 +55,20 @@ AreInOrder ks = (n : ℕ) × (ks ≡ down n)
 
 -- each sentence of what a history keeps
 pub record KeepsOrder (g : Shape) (h : List Entry) : Type 0 where
+  -- what is marked, taken or goes out is a partition or a piece of the pair, and a partition is laid into a piece that
+  -- it touches
+  pub marks_a_part : (k p : ℕ) → Has h (Mark k p) → p < g.send_parts
+  pub lays_where_they_touch : (k p i : ℕ) → Has h (Lay k p i) → (i < pieces g) × Touches g i p
+  pub sends_a_piece : (k i : ℕ) → Has h (Out k i) → i < pieces g
+  pub takes_a_part : (k q : ℕ) → Has h (Take k q) → q < g.recv_parts
   -- nothing comes twice
   pub piece_goes_out_once : (k i : ℕ) → Where h (Out k i) (λ past. ¬ Has past (Out k i))
   pub part_is_marked_once : (k p : ℕ) → Where h (Mark k p) (λ past. ¬ Has past (Mark k p))
   pub part_is_laid_once : (k p i : ℕ) → Where h (Lay k p i) (λ past. ¬ Has past (Lay k p i))
   pub part_is_taken_once : (k q : ℕ) → Where h (Take k q) (λ past. ¬ Has past (Take k q))
   -- a piece goes out right after the last of its partitions was laid, and each of them was marked before
-  pub out_right_after_a_lay : (k i : ℕ) → Where h (Out k i) (λ past. (p : ℕ) × (before : List Entry) × (past ≡ Lay k p i ∷ before))
+  pub out_right_after_a_lay : (k i : ℕ)
+      → Where h (Out k i) (λ past. (p : ℕ) × (before : List Entry) × Touches g i p × (past ≡ Lay k p i ∷ before))
   pub out_after_all_lays : (k i : ℕ) → Where h (Out k i) (λ past. (p : ℕ) → Touches g i p → Has past (Lay k p i))
   pub lay_after_its_mark : (k p i : ℕ) → Where h (Lay k p i) (λ past. Has past (Mark k p))
   pub out_after_all_marks : (k i : ℕ) → Where h (Out k i) (λ past. (p : ℕ) → Touches g i p → Has past (Mark k p))
@@ -77,7 +78,8 @@ pub record KeepsOrder (g : Shape) (h : List Entry) : Type 0 where
   pub shut_after_all_outs : (k : ℕ) → Where h (Shut k) (λ past. (i : ℕ) → i < pieces g → Has past (Out k i))
   -- a take follows its round's listening and every piece over its partition; a release follows all takes of its round
   pub take_after_listen : (k q : ℕ) → Where h (Take k q) (λ past. Has past (Listen k))
-  pub take_after_all_outs : (k q : ℕ) → Where h (Take k q) (λ past. (i : ℕ) → i < pieces g → TouchesRecv g i q → Has past (Out k i))
+  pub take_after_all_outs : (k q : ℕ)
+      → Where h (Take k q) (λ past. (i : ℕ) → i < pieces g → TouchesRecv g i q → Has past (Out k i))
   pub release_after_all_takes : (k : ℕ) → Where h (Release k) (λ past. (q : ℕ) → q < g.recv_parts → Has past (Take k q))
   -- rounds open, shut, listen and release in order 1, 2, 3; those of pieces and of takes never fall
   pub opens_in_order : AreInOrder (rounds opened h)
@@ -89,10 +91,11 @@ pub record KeepsOrder (g : Shape) (h : List Entry) : Type 0 where
   -- a round opens only after the release of the round `depth` before it
   pub open_after_release : (k : ℕ) → g.depth < k → Where h (Open k) (λ past. Has past (Release (k - g.depth)))
 
-abbrev pub KeepsOrderAlways : Shape → Type 0
-KeepsOrderAlways g = (ms : List PlainMove) (s : Plain) (h : List Entry) → Happened g ms s h → KeepsOrder g h
+abbrev pub KeepsOrderAlways : Type 0 → Shape → Type 0
+KeepsOrderAlways A g = (ms : List (Move A)) (s : Core A) (h : List Entry) → Happened g ms s h → KeepsOrder g h
 
 -- the slots that a take takes have its round
-abbrev pub TakesItsRound : Shape → Type 0
-TakesItsRound g =
-    (s : Plain) (q c : ℕ) → Sound g s → IsAllowed g s (TakePart q tt) → c < cells g → recv_of g c ≡ q → s.slot (s.recv.round % g.depth) c ≡ Home s.recv.round
+abbrev pub TakesItsRound : Type 0 → Shape → Type 0
+TakesItsRound A g =
+    (s : Core A) (q c : ℕ) (a : A) → Sound g s → IsAllowed g s (TakePart q a) → c < cells g → recv_of g c ≡ q
+    → s.slot (s.recv.round % g.depth) c ≡ Home s.recv.round

@@ -7,6 +7,7 @@ pub mod Moves
 pub mod Sound
 pub mod History
 pub mod Laws
+pub mod Facts
 pub mod Events
 pub mod State
 pub mod Shows

@@ -1,18 +1,21 @@
 -- Which moves a pair may make, and the state after each. A move is an atomic step, or changes views alone.
-use Rattle.std.specs.Prelude.{◌≡◌, ◌≢◌, ◌⊎◌, ℕ, ◌+◌, ◌-◌, ◌/◌, ◌%◌, ◌<◌, ◌≤◌, ◌==◌, Bool, true, false, List, [], ◌∷◌, ◌++◌, Option, Some, None, ◌*◌, ◌^◌, min, if◌then◌else◌, nat_lt}
+use Rattle.std.specs.Prelude.{◌≡◌, ◌≢◌, ◌⊎◌, ℕ, ◌+◌, ◌-◌, ◌/◌, ◌%◌, ◌<◌, ◌≤◌, ◌==◌, Bool, true, false, []}
+use Rattle.std.specs.Prelude.{◌++◌, Option, Some, None, ◌*◌, ◌^◌, min, if◌then◌else◌, nat_lt}
 use Rattle.gate_word.specs.Words.{round_in, word_of}
 use Rattle.gate_word.specs.Order.{IsLater}
+use Rattle.part_geometry.specs.declared.TheConstants.{LAST_ROUND}
 use Rattle.part_geometry.specs.Shape.{Shape}
 use Rattle.part_geometry.specs.Pieces.{pieces, need, Touches, TouchesRecv}
 use Rattle.pair_core.specs.Words.{bit}
-use Rattle.pair_core.specs.Names.{Name, Claim, Release, Take, Return, Piece, claim_words, take_words, Fits, number, put}
-use Rattle.pair_core.specs.Core.{Core, Slot, Home, IsMarker, IsWatcher, has}
+use Rattle.pair_core.specs.Names.{Name, Claim, Release, Take, Return, Piece, claim_words, take_words, Fits, put}
+use Rattle.pair_core.specs.Core.{Core, Home, IsMarker, has}
 use Rattle.pair_core.specs.Reading.{part_bit, IsFull}
-use Rattle.pair_core.specs.Steps.{enters, loads, stores_piece, stores_claim, shuts_claim, tries_claim, lays_piece, stores_return, stores_take, takes_part, returns_part, releases, rises, marker_less, watcher_less}
+use Rattle.pair_core.specs.Steps.{enters, loads, stores_piece, stores_claim, shuts_claim, tries_claim, lays_piece}
+use Rattle.pair_core.specs.Steps.{stores_return, stores_take, takes_part, returns_part, releases, rises, marker_less}
+use Rattle.pair_core.specs.Steps.{watcher_less}
 use Rattle.pair_core.specs.declared.view.Pending.{Pending}
 use Rattle.pair_core.specs.declared.view.SendSide.{SendSide}
 use Rattle.pair_core.specs.declared.view.RecvSide.{RecvSide}
-use Rattle.pair_core.specs.declared.view.Life.{Life}
 use Rattle.pair_core.specs.declared.view.Life.TheVariants.{Blank, Live, Spent}
 
 -- The thirteen kinds of atomic step; n is the seat where any seat or marker may make it, k the round, p a send and q a
@@ -36,10 +39,6 @@ pub data Move (A : Type 0) : Type 0 where
   Rise : ℕ → (Name → ℕ) → ℕ → Move A
   Join : ℕ → Move A
 
--- the last round
-abbrev pub last_round_number : ℕ
-last_round_number = 2147483647
-
 -- the send side is idle, active
 abbrev pub IsSendIdle : Shape → SendSide → Type 0
 IsSendIdle g d = d.shut ≡ claim_words g
@@ -54,10 +53,11 @@ IsRecvIdle d = d.released ≡ 1
 abbrev pub IsRecvActive : Shape → RecvSide → Type 0
 IsRecvActive g d = (d.takes ≡ take_words g) × (d.released ≡ 0)
 
--- the words that a seat has seen let it shut round k: all partitions are claimed and all pieces full in it, and the next
--- round has room
+-- the words that a seat has seen let it shut round k: all partitions are claimed and all pieces full in it, and the
+-- next round has room
 pub record MayShut (g : Shape) (seen : Name → ℕ) (k : ℕ) : Type 0 where
-  pub claimed : (p : ℕ) → p < g.send_parts → (round_in (seen (Claim (p / 32))) ≡ k) × (part_bit (λ c. seen (Claim c)) p ≡ 1)
+  pub claimed : (p : ℕ) → p < g.send_parts
+      → (round_in (seen (Claim (p / 32))) ≡ k) × (part_bit (λ c. seen (Claim c)) p ≡ 1)
   pub full : (i : ℕ) → i < pieces g → IsFull g (seen (Piece (k % g.depth) i)) k i
   pub room : k < round_in (seen Release) + g.depth
 
@@ -83,29 +83,41 @@ module _ {A : Type 0} where
 
   abbrev pub IsAllowed : Shape → Core A → Move A → Type 0
   IsAllowed g s (StorePiece k i) =
-      (i < pieces g) × (k ≤ last_round_number) × (k ≤ round_in (s.seen 0 Release) + g.depth)
-      × (((i ≡ 0) × IsSendIdle g s.send × (k ≡ s.send.round + 1)) ⊎ ((1 ≤ i) × (i ≡ s.send.pieces) × (k ≡ s.send.round)))
-  IsAllowed g s (StoreClaim k c) = (c < claim_words g) × (k ≡ s.send.round) × (s.send.pieces ≡ pieces g) × (c ≡ s.send.opened)
+      (i < pieces g) × (k ≤ LAST_ROUND) × (k ≤ round_in (s.seen 0 Release) + g.depth)
+      × (((i ≡ 0) × IsSendIdle g s.send × (k ≡ s.send.round + 1))
+      ⊎ ((1 ≤ i) × (i ≡ s.send.pieces) × (k ≡ s.send.round)))
+  IsAllowed g s (StoreClaim k c) =
+      (c < claim_words g) × (k ≡ s.send.round) × (s.send.pieces ≡ pieces g) × (c ≡ s.send.opened)
   IsAllowed g s (LoadClaim n c) = MayStep n s × (c < claim_words g)
   IsAllowed g s (LoadPiece n d i) = MayStep n s × (d < g.depth) × (i < pieces g)
   IsAllowed g s LoadRelease = Unit {0}
-  IsAllowed g s (ShutClaim c) = (c < claim_words g) × (s.send.opened ≡ claim_words g) × (c ≡ s.send.shut) × (c ≡ 0 → MayShut g (s.seen 0) s.send.round)
+  IsAllowed g s (ShutClaim c) =
+      (c < claim_words g) × (s.send.opened ≡ claim_words g) × (c ≡ s.send.shut)
+      × (c ≡ 0 → MayShut g (s.seen 0) s.send.round)
   -- a seat without a view has seen no claim word open
-  IsAllowed g s (TryClaim n p a) = IsMarker n × (s.life n ≡ Live) × (p < g.send_parts) × (s.pending n ≡ None) × MayClaim (s.seen n) p
+  IsAllowed g s (TryClaim n p a) =
+      IsMarker n × (s.life n ≡ Live) × (p < g.send_parts) × (s.pending n ≡ None) × MayClaim (s.seen n) p
   IsAllowed g s (LayPiece n p i) = (x : Pending) × (s.pending n ≡ Some x) × MayLay g x p i
   IsAllowed g s (StoreReturn k t) =
-      (t < take_words g) × (k ≤ last_round_number)
+      (t < take_words g) × (k ≤ LAST_ROUND)
       × (((t ≡ 0) × IsRecvIdle s.recv × (k ≡ s.recv.round + 1)) ⊎ ((1 ≤ t) × (t ≡ s.recv.returns) × (k ≡ s.recv.round)))
-  IsAllowed g s (StoreTake k t) = (t < take_words g) × (k ≡ s.recv.round) × (s.recv.returns ≡ take_words g) × (t ≡ s.recv.takes)
+  IsAllowed g s (StoreTake k t) =
+      (t < take_words g) × (k ≡ s.recv.round) × (s.recv.returns ≡ take_words g) × (t ≡ s.recv.takes)
   IsAllowed g s (TakePart q a) =
-      (q < g.recv_parts) × IsRecvActive g s.recv × (part_bit (λ t. s.word (Take t)) q ≡ 0) × AreSeen g (s.seen 1) s.recv.round q
+      (q < g.recv_parts) × IsRecvActive g s.recv × (part_bit (λ t. s.word (Take t)) q ≡ 0)
+      × AreSeen g (s.seen 1) s.recv.round q
   IsAllowed g s (ReturnPart q) =
-      (q < g.recv_parts) × IsRecvActive g s.recv × (part_bit (λ t. s.word (Take t)) q ≡ 1) × (part_bit (λ t. s.word (Return t)) q ≡ 0)
+      (q < g.recv_parts) × IsRecvActive g s.recv × (part_bit (λ t. s.word (Take t)) q ≡ 1)
+      × (part_bit (λ t. s.word (Return t)) q ≡ 0)
   IsAllowed g s (StoreRelease k) =
       (k ≡ s.recv.round) × IsRecvActive g s.recv
-      × ((q : ℕ) → q < g.recv_parts → (part_bit (λ t. s.word (Take t)) q ≡ 1) × (part_bit (λ t. s.word (Return t)) q ≡ 1))
+      × ((q : ℕ) → q < g.recv_parts
+      → (part_bit (λ t. s.word (Take t)) q ≡ 1) × (part_bit (λ t. s.word (Return t)) q ≡ 1))
   IsAllowed g s (Split n) = (2 ≤ n) × (s.life n ≡ Blank)
-  IsAllowed g s (Rise n w more) = (s.life n ≡ Live) × ((x : Name) → Fits g x → IsLater (s.seen n x) (w x) × IsLater (w x) (s.word x))
+  -- what a seat is told was so; the move counts one look at most, and leaves names alone that the pair doesn't have
+  IsAllowed g s (Rise n w more) =
+      (s.life n ≡ Live) × ((x : Name) → Fits g x → IsLater (s.seen n x) (w x) × IsLater (w x) (s.word x))
+      × (more ≤ 1) × ((x : Name) → ¬ Fits g x → w x ≡ s.seen n x)
   IsAllowed g s (Join n) = (2 ≤ n) × (s.life n ≡ Live) × (s.pending n ≡ None)
 
 -- Round 0 counts as sent, taken, given back and released. These are the words before the first move, by name; a mask
@@ -138,11 +150,13 @@ first_state g = record {
 module _ {A : Type 0} where
   -- the view of n is given up; the seat is blank from then on, and makes no event
   abbrev pub gave_up : Shape → ℕ → Core A → Core A
-  gave_up g n s = record s { life = put s.life n Spent; seen = put s.seen n (first_word g); looks = put s.looks n (λ x. 0) }
+  gave_up g n s =
+      record s { life = put s.life n Spent; seen = put s.seen n (first_word g); looks = put s.looks n (λ x. 0) }
 
   -- the marks of a marker go to the send side; a watcher has none
   abbrev pub joined : Bool → Shape → ℕ → Core A → Core A
-  joined true g n s = record (gave_up g n s) { marks = put (put s.marks 0 (s.marks n ++ s.marks 0)) n []; send = marker_less s.send }
+  joined true g n s =
+      record (gave_up g n s) { marks = put (put s.marks 0 (s.marks n ++ s.marks 0)) n []; send = marker_less s.send }
   joined false g n s = record (gave_up g n s) { recv = watcher_less s.recv }
 
   abbrev pub joins : Shape → ℕ → Core A → Core A
@@ -170,8 +184,3 @@ module _ {A : Type 0} where
   after g s (Split n) = enters n s
   after g s (Rise n w more) = rises n w more s
   after g s (Join n) = joins g n s
-
-  -- the state s' comes from s by a list of moves, each allowed where it is made; the newest stands first
-  abbrev pub Runs : Shape → Core A → List (Move A) → Core A → Type 0
-  Runs g s [] s' = s ≡ s'
-  Runs g s (m ∷ ms) s' = (t : Core A) × Runs g s ms t × IsAllowed g t m × (after g t m ≡ s')

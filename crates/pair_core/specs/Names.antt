@@ -1,5 +1,5 @@
 -- The words of a pair by name, and their numbers.
-use Rattle.std.specs.Prelude.{◌≡◌, ℕ, zero, suc, ◌+◌, ◌*◌, ◌/◌, ◌%◌, ◌<◌, ◌==◌, if◌then◌else◌}
+use Rattle.std.specs.Prelude.{ℕ, ◌+◌, ◌*◌, ◌/◌, ◌<◌}
 use native.Mathlib.Decide.{ℕ_discrete}
 use Rattle.part_geometry.specs.Shape.{Shape}
 use Rattle.part_geometry.specs.Pieces.{pieces}

@@ -1,6 +1,7 @@
 -- What the words say of partitions and pieces. All that reads a bit of a claim, take or return word stands on the
 -- first three definitions.
-use Rattle.std.specs.Prelude.{◌≡◌, ℕ, zero, suc, ◌+◌, ◌-◌, ◌/◌, ◌%◌, ◌^◌, ◌<◌, ◌==◌, Bool, if◌then◌else◌, List, filter, nat_lt, nat_le, ◌&&◌}
+use Rattle.std.specs.Prelude.{◌≡◌, ℕ, zero, suc, ◌+◌, ◌-◌, ◌/◌, ◌%◌, ◌==◌, Bool, if◌then◌else◌, List, filter}
+use Rattle.std.specs.Prelude.{nat_lt, nat_le, ◌&&◌}
 use Rattle.std.specs.List.{range_with_len, list_all}
 use Rattle.gate_word.specs.Words.{round_in}
 use Rattle.part_geometry.specs.Shape.{Shape}

@@ -1,14 +1,17 @@
 -- What a state keeps, and which core it shows.
-use Rattle.std.specs.Prelude.{◌≡◌, ◌≢◌, ℕ, ◌+◌, ◌-◌, ◌*◌, ◌^◌, ◌<◌, ◌≤◌, List, [], length, map, replicate, min, slice_index, slice_index_or, slice_get, Some, None}
+use Rattle.std.specs.Prelude.{◌≡◌, ◌≢◌, ℕ, ◌+◌, ◌-◌, ◌*◌, ◌^◌, ◌<◌, ◌≤◌, List, [], length, map, replicate, min}
+use Rattle.std.specs.Prelude.{slice_index, slice_index_or, slice_get, Some, None}
 use Rattle.std.specs.List.{range_with_len}
 use Rattle.part_geometry.specs.declared.walk.Cell.{Cell}
+use Rattle.part_geometry.specs.declared.TheConstants.{LAST_ROUND}
 use Rattle.part_geometry.specs.Shape.{Shape, IsShape}
 use Rattle.part_geometry.specs.Cells.{cells}
 use Rattle.part_geometry.specs.Pieces.{pieces, first_part, need_count}
 use Rattle.part_geometry.specs.Walk.{cell_at}
 use Rattle.pair_core.specs.Names.{Name, claim_words, take_words, Fits, number}
 use Rattle.pair_core.specs.Core.{Core, Slot, Home, Out}
-use Rattle.pair_core.specs.Moves.{last_round_number, first_word}
+use Rattle.pair_core.specs.Moves.{first_word}
+use Rattle.pair_core.specs.Sound.{IsNew}
 use Rattle.pair_core.specs.declared.view.Mark.{Mark}
 use Rattle.pair_core.specs.declared.view.SendSide.{SendSide}
 use Rattle.pair_core.specs.declared.view.RecvSide.{RecvSide}
@@ -36,13 +39,14 @@ Plain = Unit {0}
 abbrev pub IsAt : List Seat → ℕ → ℕ → Type 0
 IsAt seats at n = (v : Seat) × (slice_get seats at ≡ Some v) × (v.seat ≡ n)
 
--- What holds of each state. It has a word and a slot for each number, and a view of each seat that it has met, of the two
--- sides first.
-pub record IsKept (g : Shape) (words : List ℕ) (slots : List Spot) (send : SendSide) (recv : RecvSide) (seats : List Seat) : Type 0 where
+-- What holds of each state. It has a word and a slot for each number, and a view of each seat that it has met, of the
+-- two sides first.
+pub record IsKept (g : Shape) (words : List ℕ) (slots : List Spot) (send : SendSide) (recv : RecvSide)
+    (seats : List Seat) : Type 0 where
   pub words_size : length words ≡ word_count g
   pub slots_size : length slots ≡ g.depth * cells g
-  pub sent : send.round ≤ last_round_number
-  pub received : recv.round ≤ last_round_number
+  pub sent : send.round ≤ LAST_ROUND
+  pub received : recv.round ≤ LAST_ROUND
   pub two : 2 ≤ length seats
   pub send_seat : (v : Seat) → slice_get seats 0 ≡ Some v → v.seat ≡ 0
   pub recv_seat : (v : Seat) → slice_get seats 1 ≡ Some v → v.seat ≡ 1
@@ -66,7 +70,8 @@ slot_of (Lent n) = Out n
 
 -- a list has the slots of a pair, each at its place and cell
 abbrev pub ListsSlots : Shape → List Spot → (ℕ → ℕ → Slot) → Type 0
-ListsSlots g list slot = (d c : ℕ) → d < g.depth → c < cells g → slot_of (slice_index_or list (d * cells g + c) (Filled 0)) ≡ slot d c
+ListsSlots g list slot =
+    (d c : ℕ) → d < g.depth → c < cells g → slot_of (slice_index_or list (d * cells g + c) (Filled 0)) ≡ slot d c
 
 -- a seat that is kept has its view
 pub record IsView (g : Shape) (v : Seat) (core : Core Plain) : Type 0 where
@@ -84,16 +89,14 @@ pub record IsFresh (g : Shape) (v : Seat) : Type 0 where
   pub pending : v.pending ≡ None
   pub marks : v.marks ≡ []
 
--- and any other seat is blank: it has seen the first words, and did nothing
+-- and any other seat is blank
 pub record IsBlank (g : Shape) (n : ℕ) (core : Core Plain) : Type 0 where
   pub blank : core.life n ≡ Blank
-  pub seen : (x : Name) → Fits g x → core.seen n x ≡ first_word g x
-  pub looks : (x : Name) → Fits g x → core.looks n x ≡ 0
-  pub pending : core.pending n ≡ None
-  pub marks : core.marks n ≡ []
+  pub new : IsNew g (core.seen n) (core.looks n) (core.pending n) (core.marks n)
 
 -- what is kept shows a core
-pub record Stands (g : Shape) (words : List ℕ) (slots : List Spot) (send : SendSide) (recv : RecvSide) (seats : List Seat) (takes : List (Mark Plain)) (core : Core Plain) : Type 0 where
+pub record Stands (g : Shape) (words : List ℕ) (slots : List Spot) (send : SendSide) (recv : RecvSide)
+    (seats : List Seat) (takes : List (Mark Plain)) (core : Core Plain) : Type 0 where
   pub words_are : ListsWords g words core.word
   pub slots_are : ListsSlots g slots core.slot
   pub send_are : send ≡ core.send

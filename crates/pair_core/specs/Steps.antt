@@ -1,5 +1,6 @@
 -- What each kind of atomic step makes of the state. A step is a load, a store, an or or an exchange on one word.
-use Rattle.std.specs.Prelude.{◌≡◌, ℕ, ◌+◌, ◌-◌, ◌/◌, ◌%◌, ◌^◌, ◌==◌, ◌&&◌, Bool, true, false, if◌then◌else◌, List, [], ◌∷◌, ◌++◌, bit_or, Option, Some, None}
+use Rattle.std.specs.Prelude.{ℕ, ◌+◌, ◌-◌, ◌/◌, ◌%◌, ◌^◌, ◌==◌, ◌&&◌, Bool, true, false, if◌then◌else◌, []}
+use Rattle.std.specs.Prelude.{◌∷◌, bit_or, Option, Some, None}
 use Rattle.std.specs.List.{list_all}
 use Rattle.part_geometry.specs.Shape.{Shape}
 use Rattle.part_geometry.specs.Cells.{send_of, recv_of}
@@ -34,7 +35,8 @@ put_slots slot place these x d c = if (d == place) && these c then x else slot d
 
 -- what is left of a claim when piece i has its partition: nothing, where that was the last of its pieces
 abbrev pub left_of : Shape → ℕ → Pending → Option Pending
-left_of g i x = if list_all (has (i ∷ x.laid)) (pieces_over g x.partition) then None else Some (record x { laid = i ∷ x.laid })
+left_of g i x =
+    if list_all (has (i ∷ x.laid)) (pieces_over g x.partition) then None else Some (record x { laid = i ∷ x.laid })
 
 module _ {A : Type 0} where
   abbrev pub mark : ℕ → ℕ → A → Mark A
@@ -80,7 +82,8 @@ module _ {A : Type 0} where
 
   -- the send side shuts claim word c
   abbrev pub shuts_claim : ℕ → Core A → Core A
-  shuts_claim c s = record (wrote 0 (Claim c) (bit_or (s.word (Claim c)) (2 ^ 32)) s) { send = record s.send { shut = c + 1 } }
+  shuts_claim c s =
+      record (wrote 0 (Claim c) (bit_or (s.word (Claim c)) (2 ^ 32)) s) { send = record s.send { shut = c + 1 } }
 
   -- the marker n claims partition p in the sender's round: the slots of its cells go out to n
   abbrev pub claims : Shape → ℕ → ℕ → A → Core A → Core A
@@ -92,7 +95,8 @@ module _ {A : Type 0} where
 
   -- it wins where the word is the one that the marker has last seen, and else is a load
   abbrev pub tries_claim : Shape → ℕ → ℕ → A → Core A → Core A
-  tries_claim g n p a s = if s.word (Claim (p / 32)) == s.seen n (Claim (p / 32)) then claims g n p a s else loads n (Claim (p / 32)) s
+  tries_claim g n p a s =
+      if s.word (Claim (p / 32)) == s.seen n (Claim (p / 32)) then claims g n p a s else loads n (Claim (p / 32)) s
 
   -- the marker n lays its pending partition into piece i: the slots of the cells that both have come home
   abbrev pub lays_piece : Shape → ℕ → ℕ → Pending → Core A → Core A
@@ -132,4 +136,7 @@ module _ {A : Type 0} where
 
   -- the words that the seat n has seen rise to w; where it looked at word 0, that is one look more
   abbrev pub rises : ℕ → (Name → ℕ) → ℕ → Core A → Core A
-  rises n w more s = record s { seen = put s.seen n w; looks = put s.looks n (put_word (Claim 0) (s.looks n (Claim 0) + more) (s.looks n)) }
+  rises n w more s = record s {
+    seen = put s.seen n w;
+    looks = put s.looks n (put_word (Claim 0) (s.looks n (Claim 0) + more) (s.looks n));
+  }

@@ -1,5 +1,5 @@
 -- The bits of a word. A word has a round, and the bits 0 to 32; bit 32 is set where it is shut.
-use Rattle.std.specs.Prelude.{ℕ, ◌+◌, ◌/◌, ◌%◌, ◌^◌, Bool, false}
+use Rattle.std.specs.Prelude.{ℕ, ◌+◌, ◌/◌, ◌%◌, ◌^◌, false}
 use Rattle.gate_word.specs.Words.{word_of, round_in}
 
 -- bit j of a word, 0 or 1

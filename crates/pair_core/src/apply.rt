@@ -16,7 +16,8 @@ impl CoreState {
     /// partition was taken by it. Where it isn't allowed, or memory is wanting, the state is as before.
     pub fn apply(&mut self, alloc: Global, event: &Event) -> Result<Applied, AllocError>
         ensures geometry { geometry_of self.new ≡ geometry_of self.old }
-        ensures becomes { IfOk result (λ r. (core : Core Plain) → Shows self.old core → Becomes (geometry_of self.old) event.now (Shows self.new) core r) }
+        ensures becomes { IfOk result (λ r. (core : Core Plain) → Shows self.old core
+            → Becomes (geometry_of self.old) event.now (Shows self.new) core r) }
         ensures memory { IfErr result (λ _. (core : Core Plain) → Shows self.old core → Shows self.new core) }
     {
         match event.kind {

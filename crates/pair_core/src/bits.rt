@@ -1,12 +1,10 @@
 //! Words as the steps make them.
 
 ghost use Rattle.std.specs.Prelude.{◌≡◌, ◌<◌, ◌≤◌, ◌^◌, bit_or};
+ghost use Rattle.part_geometry.specs.declared.TheConstants.{LAST_ROUND};
 ghost use Rattle.pair_core.specs.Words.{bit, empty};
 
 use gate_word::pack;
-
-/// The last round.
-pub(crate) const LAST_ROUND: u32 = 2_147_483_647;
 
 /// The bit that says whether a word is shut.
 pub(crate) const SHUT: u32 = 32;
@@ -14,7 +12,7 @@ pub(crate) const SHUT: u32 = 32;
 /// The open word of a round with no bit set.
 #[tactic(auto, unfolding(crate::specs::Words::empty))]
 pub(crate) fn empty_word(round: u32) -> u64
-    requires { round ≤ 2147483647 }
+    requires { round ≤ LAST_ROUND }
     ensures { result ≡ empty round }
 {
     pack(round, false, 0)

@@ -22,7 +22,8 @@ impl CoreState {
     fn may_claim(&self, at: usize, p: u32) -> bool
         requires at { at < length self.now.seats.items }
         requires part { p < self.now.tables.send_parts }
-        ensures { (core : Core Plain) (n : ℕ) → Shows self.now core → IsAt self.now.seats.items at n → IsTrue result ↔ MayClaim (core.seen n) p }
+        ensures { (core : Core Plain) (n : ℕ) → Shows self.now core → IsAt self.now.seats.items at n
+            → IsTrue result ↔ MayClaim (core.seen n) p }
     {
         let word = self.seen(at, (p / 32) as usize);
         if bit_of(word, SHUT) != 0 {
@@ -36,7 +37,8 @@ impl CoreState {
         requires at { IsAt self.old.seats.items at seat }
         requires part { p < self.old.tables.send_parts }
         ensures tables { self.new.tables ≡ self.old.tables }
-        ensures shows { IfOk result (λ _. (core : Core Plain) → Shows self.old core → Shows self.new (claims self.old.tables seat p tt core)) }
+        ensures shows { IfOk result (λ _. (core : Core Plain) → Shows self.old core
+            → Shows self.new (claims self.old.tables seat p tt core)) }
         ensures memory { IfErr result (λ _. (core : Core Plain) → Shows self.old core → Shows self.new core) }
     {
         let round = self.send.round;
@@ -59,7 +61,8 @@ impl CoreState {
     pub(crate) fn try_claim(&mut self, alloc: Global, event: &Event) -> Result<Applied, AllocError>
         requires { event.now.kind ≡ 7 }
         ensures tables { self.new.tables ≡ self.old.tables }
-        ensures becomes { IfOk result (λ r. (core : Core Plain) → Shows self.old core → Becomes self.old.tables event.now (Shows self.new) core r) }
+        ensures becomes { IfOk result (λ r. (core : Core Plain) → Shows self.old core
+            → Becomes self.old.tables event.now (Shows self.new) core r) }
         ensures memory { IfErr result (λ _. (core : Core Plain) → Shows self.old core → Shows self.new core) }
     {
         let p = event.partition;

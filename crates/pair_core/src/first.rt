@@ -87,7 +87,8 @@ pub(crate) fn first_seats(
 ) -> Result<Vec<Seat>, AllocError>
     requires size { length words.now ≡ word_count tables.now }
     requires words { ListsWords tables.now words.now (first_word tables.now) }
-    ensures { IfOk result (λ seats. (v : Seat) × (w : Seat) × (seats.items ≡ v ∷ w ∷ []) × IsFresh tables.now v × IsFresh tables.now w × (v.seat ≡ 0) × (w.seat ≡ 1)) }
+    ensures { IfOk result (λ seats. (v : Seat) × (w : Seat) × (seats.items ≡ v ∷ w ∷ []) × IsFresh tables.now v
+        × IsFresh tables.now w × (v.seat ≡ 0) × (w.seat ≡ 1)) }
 {
     let _geometry = tables.geometry();
     let mut seats = Vec::new(alloc);

@@ -1,6 +1,7 @@
 //! The lays of markers.
 
-ghost use Rattle.std.specs.Prelude.{◌≡◌, ◌↔◌, false, true, ℕ, ◌+◌, ◌-◌, ◌%◌, ◌^◌, ◌<◌, ◌≤◌, ◌∷◌, bit_or, IsTrue, IfOk, IfErr, IfSome, IfNone, Some, None, length};
+ghost use Rattle.std.specs.Prelude.{◌≡◌, ◌↔◌, false, true, ℕ, ◌+◌, ◌-◌, ◌%◌, ◌^◌, ◌<◌, ◌≤◌, ◌∷◌, bit_or, IsTrue, IfOk};
+ghost use Rattle.std.specs.Prelude.{IfErr, IfSome, IfNone, Some, None, length};
 ghost use Rattle.part_geometry.specs.Pieces.{pieces, first_part, Touches};
 ghost use Rattle.pair_core.specs.Names.{Piece, number};
 ghost use Rattle.pair_core.specs.Core.{Core, has};
@@ -57,7 +58,8 @@ fn is_last(tables: &Tables, pending: &Pending, i: usize) -> bool
 /// What is laid where a claim's partition is laid into the piece of a word; `None` where it may not be.
 pub(crate) fn lay_of(tables: &Tables, pending: &Pending, partition: u32, word: usize) -> Option<Lay>
     ensures some { IfSome result (λ l. IsLay tables.now pending.now partition word l) }
-    ensures none { IfNone result ((i : ℕ) → word ≡ number tables.now (Piece (pending.now.round % tables.now.depth) i) → ¬ MayLay tables.now pending.now partition i) }
+    ensures none { IfNone result ((i : ℕ) → word ≡ number tables.now (Piece (pending.now.round % tables.now.depth) i)
+        → ¬ MayLay tables.now pending.now partition i) }
 {
     let _count = tables.pieces();
     if pending.partition != partition {
@@ -89,9 +91,12 @@ impl CoreState {
         requires touches { Touches self.old.tables lay.piece p }
         ensures tables { self.new.tables ≡ self.old.tables }
         ensures word { IfOk result (λ w. (core : Core Plain) → Shows self.old core
-            → w ≡ bit_or (core.word (Piece (lay.round % self.old.tables.depth) lay.piece)) (2 ^ (p - first_part self.old.tables lay.piece))) }
-        ensures shows { IfOk result (λ _. (core : Core Plain) (n word : ℕ) (x : Pending) → Shows self.old core → IsAt self.old.seats.items at n
-            → core.pending n ≡ Some x → IsLay self.old.tables x p word lay → Shows self.new (lays_piece self.old.tables n lay.piece x core)) }
+            → w ≡ bit_or (core.word (Piece (lay.round % self.old.tables.depth) lay.piece))
+            (2 ^ (p - first_part self.old.tables lay.piece))) }
+        ensures shows { IfOk result (λ _. (core : Core Plain) (n word : ℕ) (x : Pending) → Shows self.old core
+            → IsAt self.old.seats.items at n
+            → core.pending n ≡ Some x → IsLay self.old.tables x p word lay
+            → Shows self.new (lays_piece self.old.tables n lay.piece x core)) }
         ensures memory { IfErr result (λ _. (core : Core Plain) → Shows self.old core → Shows self.new core) }
     {
         let piece = lay.piece;
@@ -116,7 +121,8 @@ impl CoreState {
     pub(crate) fn lay_piece(&mut self, event: &Event) -> Result<Applied, AllocError>
         requires { event.now.kind ≡ 8 }
         ensures tables { self.new.tables ≡ self.old.tables }
-        ensures becomes { IfOk result (λ r. (core : Core Plain) → Shows self.old core → Becomes self.old.tables event.now (Shows self.new) core r) }
+        ensures becomes { IfOk result (λ r. (core : Core Plain) → Shows self.old core
+            → Becomes self.old.tables event.now (Shows self.new) core r) }
         ensures memory { IfErr result (λ _. (core : Core Plain) → Shows self.old core → Shows self.new core) }
     {
         let _geometry = self.tables.geometry();

@@ -17,7 +17,8 @@ impl CoreState {
     pub(crate) fn load_claim(&mut self, alloc: Global, event: &Event) -> Result<Applied, AllocError>
         requires { event.now.kind ≡ 3 }
         ensures tables { self.new.tables ≡ self.old.tables }
-        ensures becomes { IfOk result (λ r. (core : Core Plain) → Shows self.old core → Becomes self.old.tables event.now (Shows self.new) core r) }
+        ensures becomes { IfOk result (λ r. (core : Core Plain) → Shows self.old core
+            → Becomes self.old.tables event.now (Shows self.new) core r) }
         ensures memory { IfErr result (λ _. (core : Core Plain) → Shows self.old core → Shows self.new core) }
     {
         let c = event.word as usize;
@@ -33,7 +34,8 @@ impl CoreState {
     pub(crate) fn load_piece(&mut self, alloc: Global, event: &Event) -> Result<Applied, AllocError>
         requires { event.now.kind ≡ 4 }
         ensures tables { self.new.tables ≡ self.old.tables }
-        ensures becomes { IfOk result (λ r. (core : Core Plain) → Shows self.old core → Becomes self.old.tables event.now (Shows self.new) core r) }
+        ensures becomes { IfOk result (λ r. (core : Core Plain) → Shows self.old core
+            → Becomes self.old.tables event.now (Shows self.new) core r) }
         ensures memory { IfErr result (λ _. (core : Core Plain) → Shows self.old core → Shows self.new core) }
     {
         let word = event.word as usize;

@@ -6,10 +6,11 @@ ghost use Rattle.pair_core.specs.Core.{Core};
 ghost use Rattle.pair_core.specs.State.{Plain};
 ghost use Rattle.pair_core.specs.Events.{Becomes};
 
-use crate::bits::{LAST_ROUND, empty_word};
+use crate::bits::empty_word;
 use crate::event::{Applied, Event};
 use crate::state::CoreState;
 use crate::view::RecvSide;
+use part_geometry::LAST_ROUND;
 
 impl CoreState {
     ghost use Rattle.pair_core.specs.Shows.{Shows};
@@ -29,7 +30,8 @@ impl CoreState {
     pub(crate) fn store_return(&mut self, event: &Event) -> Applied
         requires { event.now.kind ≡ 9 }
         ensures tables { self.new.tables ≡ self.old.tables }
-        ensures becomes { (core : Core Plain) → Shows self.old core → Becomes self.old.tables event.now (Shows self.new) core result }
+        ensures becomes { (core : Core Plain) → Shows self.old core
+            → Becomes self.old.tables event.now (Shows self.new) core result }
     {
         let recv = self.recv;
         let round = event.round;
@@ -75,7 +77,8 @@ impl CoreState {
     pub(crate) fn store_take(&mut self, event: &Event) -> Applied
         requires { event.now.kind ≡ 10 }
         ensures tables { self.new.tables ≡ self.old.tables }
-        ensures becomes { (core : Core Plain) → Shows self.old core → Becomes self.old.tables event.now (Shows self.new) core result }
+        ensures becomes { (core : Core Plain) → Shows self.old core
+            → Becomes self.old.tables event.now (Shows self.new) core result }
     {
         let recv = self.recv;
         let word = event.word as usize;

@@ -15,7 +15,8 @@ use std::alloc::{AllocError, Global};
 /// The state after the step of an event, if the step is allowed. It copies the state; `CoreState::apply` changes it in
 /// place.
 pub fn step(alloc: Global, state: &CoreState, event: &Event) -> Result<Step, AllocError>
-    ensures { IfOk result (λ r. (core : Core Plain) → Shows state.now core → Steps (geometry_of state.now) event.now core r) }
+    ensures { IfOk result (λ r. (core : Core Plain) → Shows state.now core
+        → Steps (geometry_of state.now) event.now core r) }
 {
     let mut next = state.copy(alloc)?;
     match next.apply(alloc, event)? {

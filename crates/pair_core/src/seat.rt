@@ -1,6 +1,7 @@
 //! What a state keeps of a slot and of a seat.
 
-ghost use Rattle.std.specs.Prelude.{◌≡◌, ◌∷◌, IfErr, true, false, ◌+◌, ◌-◌, ◌*◌, ◌<◌, ◌^◌, [], None, length, min, slice_set, slice_index, replicate, IfOk};
+ghost use Rattle.std.specs.Prelude.{◌≡◌, ◌∷◌, IfErr, true, false, ◌+◌, ◌-◌, ◌*◌, ◌<◌, ◌^◌, [], None, length, min};
+ghost use Rattle.std.specs.Prelude.{slice_set, slice_index, replicate, IfOk};
 ghost use Rattle.part_geometry.specs.Cells.{cells};
 ghost use Rattle.pair_core.specs.Picks.{IsFilled};
 ghost use Rattle.pair_core.specs.Steps.{mark};
@@ -107,7 +108,8 @@ impl Seat {
         requires looks { index < length self.old.looks.items }
         ensures seat { self.new.seat ≡ self.old.seat }
         ensures seen { self.new.seen.items ≡ slice_set self.old.seen.items index word }
-        ensures looks { self.new.looks.items ≡ slice_set self.old.looks.items index (min (slice_index self.old.looks.items index + 1) (2 ^ 64 - 1)) }
+        ensures looks { self.new.looks.items ≡ slice_set self.old.looks.items index
+            (min (slice_index self.old.looks.items index + 1) (2 ^ 64 - 1)) }
         ensures pending { self.new.pending ≡ self.old.pending }
         ensures marks { self.new.marks ≡ self.old.marks }
     {

@@ -10,11 +10,12 @@ ghost use Rattle.pair_core.specs.Moves.{MayShut};
 ghost use Rattle.pair_core.specs.State.{Plain, IsAt};
 ghost use Rattle.pair_core.specs.Events.{Becomes};
 
-use crate::bits::{LAST_ROUND, SHUT, bit_of, empty_word, with_bit};
+use crate::bits::{SHUT, bit_of, empty_word, with_bit};
 use crate::event::{Applied, Event};
 use crate::state::CoreState;
 use crate::view::SendSide;
 use gate_word::round_of;
+use part_geometry::LAST_ROUND;
 
 impl CoreState {
     ghost use Rattle.std.specs.Prelude.{◌%◌, ◌/◌};
@@ -24,7 +25,8 @@ impl CoreState {
     pub(crate) fn load_release(&mut self, event: &Event) -> Applied
         requires { event.now.kind ≡ 5 }
         ensures tables { self.new.tables ≡ self.old.tables }
-        ensures becomes { (core : Core Plain) → Shows self.old core → Becomes self.old.tables event.now (Shows self.new) core result }
+        ensures becomes { (core : Core Plain) → Shows self.old core
+            → Becomes self.old.tables event.now (Shows self.new) core result }
     {
         let release = self.tables.claim_words();
         if event.seat != 0 {
@@ -39,7 +41,8 @@ impl CoreState {
 
     /// Whether the send side stores piece `i` of a round next, if it has room.
     fn begins_next(&self, round: u32, i: usize) -> bool
-        ensures { IsTrue result ↔ (((i ≡ 0) × (self.now.send.shut ≡ claim_words self.now.tables) × (round ≡ self.now.send.round + 1))
+        ensures { IsTrue result
+            ↔ (((i ≡ 0) × (self.now.send.shut ≡ claim_words self.now.tables) × (round ≡ self.now.send.round + 1))
             ⊎ ((1 ≤ i) × (i ≡ self.now.send.pieces) × (round ≡ self.now.send.round))) }
     {
         if i == 0 {
@@ -51,7 +54,8 @@ impl CoreState {
 
     /// Whether a round is at most `depth` ahead of the release that the send side has seen.
     fn has_room(&self, round: u32) -> bool
-        ensures { (core : Core Plain) → Shows self.now core → IsTrue result ↔ (round ≤ round_in (core.seen 0 Release) + self.now.tables.depth) }
+        ensures { (core : Core Plain) → Shows self.now core
+            → IsTrue result ↔ (round ≤ round_in (core.seen 0 Release) + self.now.tables.depth) }
     {
         let seen = self.seen(0, self.tables.claim_words());
         round <= round_of(seen) + self.tables.geometry().depth()
@@ -61,7 +65,8 @@ impl CoreState {
     pub(crate) fn store_piece(&mut self, event: &Event) -> Applied
         requires { event.now.kind ≡ 1 }
         ensures tables { self.new.tables ≡ self.old.tables }
-        ensures becomes { (core : Core Plain) → Shows self.old core → Becomes self.old.tables event.now (Shows self.new) core result }
+        ensures becomes { (core : Core Plain) → Shows self.old core
+            → Becomes self.old.tables event.now (Shows self.new) core result }
     {
         let send = self.send;
         let round = event.round;
@@ -108,7 +113,8 @@ impl CoreState {
     pub(crate) fn store_claim(&mut self, event: &Event) -> Applied
         requires { event.now.kind ≡ 2 }
         ensures tables { self.new.tables ≡ self.old.tables }
-        ensures becomes { (core : Core Plain) → Shows self.old core → Becomes self.old.tables event.now (Shows self.new) core result }
+        ensures becomes { (core : Core Plain) → Shows self.old core
+            → Becomes self.old.tables event.now (Shows self.new) core result }
     {
         let send = self.send;
         let c = event.word as usize;
@@ -141,7 +147,8 @@ impl CoreState {
     /// Whether the send side has seen each of its partitions claimed in a round.
     fn sees_claimed(&self, round: u32) -> bool
         ensures { (core : Core Plain) → Shows self.now core
-            → IsTrue result ↔ ((p : ℕ) → p < self.now.tables.send_parts → (round_in (core.seen 0 (Claim (p / 32))) ≡ round) × (part_bit (λ c. core.seen 0 (Claim c)) p ≡ 1)) }
+            → IsTrue result ↔ ((p : ℕ) → p < self.now.tables.send_parts
+            → (round_in (core.seen 0 (Claim (p / 32))) ≡ round) × (part_bit (λ c. core.seen 0 (Claim c)) p ≡ 1)) }
     {
         let parts = self.tables.geometry().send_parts();
         for p in 0..parts {
@@ -159,7 +166,8 @@ impl CoreState {
     /// Whether the send side has seen each piece full in a round.
     fn sees_out(&self, round: u32) -> bool
         ensures { (core : Core Plain) → Shows self.now core
-            → IsTrue result ↔ ((i : ℕ) → i < pieces self.now.tables → IsFull self.now.tables (core.seen 0 (Piece (round % self.now.tables.depth) i)) round i) }
+            → IsTrue result ↔ ((i : ℕ) → i < pieces self.now.tables
+            → IsFull self.now.tables (core.seen 0 (Piece (round % self.now.tables.depth) i)) round i) }
     {
         for i in 0..self.tables.pieces() {
             if !self.sees_full(0, round, i) {
@@ -171,7 +179,8 @@ impl CoreState {
 
     /// Whether what the send side has seen lets it shut its round.
     fn may_shut(&self) -> bool
-        ensures { (core : Core Plain) → Shows self.now core → IsTrue result ↔ MayShut self.now.tables (core.seen 0) core.send.round }
+        ensures { (core : Core Plain) → Shows self.now core
+            → IsTrue result ↔ MayShut self.now.tables (core.seen 0) core.send.round }
     {
         let round = self.send.round;
         if !self.sees_claimed(round) {
@@ -186,7 +195,9 @@ impl CoreState {
     /// Whether the send side shuts claim word `c` next, if its round may be shut.
     fn shuts_next(&self, c: usize) -> bool
         ensures few { IsTrue result → c < 32 }
-        ensures next { IsTrue result ↔ ((c < claim_words self.now.tables) × (self.now.send.opened ≡ claim_words self.now.tables) × (c ≡ self.now.send.shut)) }
+        ensures next { IsTrue result
+            ↔ ((c < claim_words self.now.tables) × (self.now.send.opened ≡ claim_words self.now.tables)
+            × (c ≡ self.now.send.shut)) }
     {
         c < self.tables.claim_words()
             && self.send.opened as usize == self.tables.claim_words()
@@ -197,7 +208,8 @@ impl CoreState {
     pub(crate) fn shut_claim(&mut self, event: &Event) -> Applied
         requires { event.now.kind ≡ 6 }
         ensures tables { self.new.tables ≡ self.old.tables }
-        ensures becomes { (core : Core Plain) → Shows self.old core → Becomes self.old.tables event.now (Shows self.new) core result }
+        ensures becomes { (core : Core Plain) → Shows self.old core
+            → Becomes self.old.tables event.now (Shows self.new) core result }
     {
         let send = self.send;
         let c = event.word as usize;
@@ -221,7 +233,8 @@ impl CoreState {
 
     /// The same for the first word; for another the round is being shut already.
     fn may_shut_word(&self, c: usize) -> bool
-        ensures { (core : Core Plain) → Shows self.now core → IsTrue result ↔ (c ≡ 0 → MayShut self.now.tables (core.seen 0) core.send.round) }
+        ensures { (core : Core Plain) → Shows self.now core
+            → IsTrue result ↔ (c ≡ 0 → MayShut self.now.tables (core.seen 0) core.send.round) }
     {
         if c != 0 {
             return true;

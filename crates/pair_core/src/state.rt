@@ -1,6 +1,8 @@
 //! The state of a pair as plain data: what it reads, and the changes that the steps are made of.
 
-ghost use Rattle.std.specs.Prelude.{◌≡◌, ◌↔◌, IsTrue, None, ◌∷◌, ◌≢◌, ℕ, ◌+◌, ◌-◌, ◌*◌, ◌%◌, ◌<◌, ◌≤◌, ◌^◌, Some, length, slice_get, IfSome, IfNone, IfOk, IfErr};
+ghost use Rattle.std.specs.Prelude.{◌≡◌, ◌↔◌, IsTrue, None, ◌∷◌, ◌≢◌, ℕ, ◌+◌, ◌-◌, ◌*◌, ◌%◌, ◌<◌, ◌≤◌, ◌^◌, Some};
+ghost use Rattle.std.specs.Prelude.{length, slice_get, IfSome, IfNone, IfOk, IfErr};
+ghost use Rattle.part_geometry.specs.declared.TheConstants.{LAST_ROUND};
 ghost use Rattle.pair_core.specs.Names.{Name, Piece, Fits, number, put, put_word};
 ghost use Rattle.pair_core.specs.Core.{Core};
 ghost use Rattle.pair_core.specs.State.{slot_of, IsFresh, IsKept, IsAt, Plain, word_count};
@@ -95,7 +97,8 @@ impl CoreState {
     /// The word with a number.
     pub(crate) fn word(&self, index: usize) -> u64
         requires { index < word_count self.now.tables }
-        ensures { (core : Core Plain) (x : Name) → Shows self.now core → Fits self.now.tables x → number self.now.tables x ≡ index → result ≡ core.word x }
+        ensures { (core : Core Plain) (x : Name) → Shows self.now core → Fits self.now.tables x
+            → number self.now.tables x ≡ index → result ≡ core.word x }
     {
         self.words[index]
     }
@@ -104,7 +107,8 @@ impl CoreState {
     pub(crate) fn seen(&self, at: usize, index: usize) -> u64
         requires at { at < length self.now.seats.items }
         requires index { index < word_count self.now.tables }
-        ensures { (core : Core Plain) (n : ℕ) (x : Name) → Shows self.now core → IsAt self.now.seats.items at n → Fits self.now.tables x → number self.now.tables x ≡ index → result ≡ core.seen n x }
+        ensures { (core : Core Plain) (n : ℕ) (x : Name) → Shows self.now core → IsAt self.now.seats.items at n
+            → Fits self.now.tables x → number self.now.tables x ≡ index → result ≡ core.seen n x }
     {
         self.seats[at].seen[index]
     }
@@ -113,7 +117,8 @@ impl CoreState {
     pub(crate) fn find(&self, seat: u32) -> Option<usize>
         ensures some { IfSome result (λ at. IsAt self.now.seats.items at seat) }
         ensures inside { IfSome result (λ at. at < length self.now.seats.items) }
-        ensures none { IfNone result ((at : ℕ) (v : Seat) → slice_get self.now.seats.items at ≡ Some v → v.seat ≢ seat) }
+        ensures none { IfNone result ((at : ℕ) (v : Seat) → slice_get self.now.seats.items at ≡ Some v
+            → v.seat ≢ seat) }
     {
         for (at, known) in self.seats.iter().enumerate() {
             if known.seat == seat {
@@ -130,7 +135,8 @@ impl CoreState {
         ensures send { self.new.send ≡ self.old.send }
         ensures recv { self.new.recv ≡ self.old.recv }
         ensures seats { self.new.seats.items ≡ self.old.seats.items }
-        ensures shows { (core : Core Plain) (x : Name) → Shows self.old core → Fits self.old.tables x → number self.old.tables x ≡ index → Shows self.new (record core { word = put_word x word core.word }) }
+        ensures shows { (core : Core Plain) (x : Name) → Shows self.old core → Fits self.old.tables x
+            → number self.old.tables x ≡ index → Shows self.new (record core { word = put_word x word core.word }) }
     {
         self.words[index] = word;
     }
@@ -143,7 +149,8 @@ impl CoreState {
         ensures send { self.new.send ≡ self.old.send }
         ensures recv { self.new.recv ≡ self.old.recv }
         ensures seats { (m n : ℕ) → IsAt self.old.seats.items m n → IsAt self.new.seats.items m n }
-        ensures shows { (core : Core Plain) (n : ℕ) (x : Name) → Shows self.old core → IsAt self.old.seats.items at n → Fits self.old.tables x → number self.old.tables x ≡ index → Shows self.new (saw n x word core) }
+        ensures shows { (core : Core Plain) (n : ℕ) (x : Name) → Shows self.old core → IsAt self.old.seats.items at n
+            → Fits self.old.tables x → number self.old.tables x ≡ index → Shows self.new (saw n x word core) }
     {
         self.seats[at].saw(index, word);
     }
@@ -156,7 +163,8 @@ impl CoreState {
         ensures send { self.new.send ≡ self.old.send }
         ensures recv { self.new.recv ≡ self.old.recv }
         ensures seats { (m n : ℕ) → IsAt self.old.seats.items m n → IsAt self.new.seats.items m n }
-        ensures shows { (core : Core Plain) (n : ℕ) (x : Name) → Shows self.old core → IsAt self.old.seats.items at n → Fits self.old.tables x → number self.old.tables x ≡ index → Shows self.new (wrote n x word core) }
+        ensures shows { (core : Core Plain) (n : ℕ) (x : Name) → Shows self.old core → IsAt self.old.seats.items at n
+            → Fits self.old.tables x → number self.old.tables x ≡ index → Shows self.new (wrote n x word core) }
     {
         self.put(index, word);
         self.saw(at, index, word);
@@ -170,7 +178,8 @@ impl CoreState {
         ensures send { self.new.send ≡ self.old.send }
         ensures recv { self.new.recv ≡ self.old.recv }
         ensures seats { (m n : ℕ) → IsAt self.old.seats.items m n → IsAt self.new.seats.items m n }
-        ensures shows { (core : Core Plain) (n : ℕ) (x : Name) → Shows self.old core → IsAt self.old.seats.items at n → Fits self.old.tables x → number self.old.tables x ≡ index → Shows self.new (loads n x core) }
+        ensures shows { (core : Core Plain) (n : ℕ) (x : Name) → Shows self.old core → IsAt self.old.seats.items at n
+            → Fits self.old.tables x → number self.old.tables x ≡ index → Shows self.new (loads n x core) }
     {
         let word = self.word(index);
         self.saw(at, index, word);
@@ -178,7 +187,7 @@ impl CoreState {
 
     /// The send side comes to stand as given.
     pub(crate) fn set_send(&mut self, send: SendSide)
-        requires round { send.round ≤ 2147483647 }
+        requires round { send.round ≤ LAST_ROUND }
         requires markers { send.markers ≡ self.old.send.markers }
         ensures tables { self.new.tables ≡ self.old.tables }
         ensures seats { self.new.seats.items ≡ self.old.seats.items }
@@ -189,7 +198,7 @@ impl CoreState {
 
     /// The receive side comes to stand as given.
     pub(crate) fn set_recv(&mut self, recv: RecvSide)
-        requires round { recv.round ≤ 2147483647 }
+        requires round { recv.round ≤ LAST_ROUND }
         requires watchers { recv.watchers ≡ self.old.recv.watchers }
         ensures tables { self.new.tables ≡ self.old.tables }
         ensures seats { self.new.seats.items ≡ self.old.seats.items }
@@ -205,7 +214,9 @@ impl CoreState {
         ensures send { self.new.send ≡ self.old.send }
         ensures recv { self.new.recv ≡ self.old.recv }
         ensures seats { self.new.seats.items ≡ self.old.seats.items }
-        ensures shows { (core : Core Plain) → Shows self.old core → Shows self.new (record core { slot = put_slots core.slot place (picked self.old.tables pick) (slot_of spot) }) }
+        ensures shows { (core : Core Plain) → Shows self.old core
+            → Shows self.new
+            (record core { slot = put_slots core.slot place (picked self.old.tables pick) (slot_of spot) }) }
     {
         fill(&mut self.slots, &self.tables, place, pick, spot);
     }
@@ -216,7 +227,8 @@ impl CoreState {
         ensures send { self.new.send ≡ self.old.send }
         ensures recv { self.new.recv ≡ self.old.recv }
         ensures seats { self.new.seats.items ≡ self.old.seats.items }
-        ensures shows { IfOk result (λ _. (core : Core Plain) → Shows self.old core → Shows self.new (record core { takes = mark round partition tt ∷ core.takes })) }
+        ensures shows { IfOk result (λ _. (core : Core Plain) → Shows self.old core
+            → Shows self.new (record core { takes = mark round partition tt ∷ core.takes })) }
         ensures memory { IfErr result (λ _. (core : Core Plain) → Shows self.old core → Shows self.new core) }
     {
         self.takes.push_front(Mark {
@@ -230,7 +242,8 @@ impl CoreState {
     /// Whether a seat has no claim that pends.
     pub(crate) fn is_free(&self, at: usize) -> bool
         requires { at < length self.now.seats.items }
-        ensures { (core : Core Plain) (n : ℕ) → Shows self.now core → IsAt self.now.seats.items at n → IsTrue result ↔ (core.pending n ≡ None) }
+        ensures { (core : Core Plain) (n : ℕ) → Shows self.now core → IsAt self.now.seats.items at n
+            → IsTrue result ↔ (core.pending n ≡ None) }
     {
         self.seats[at].pending.is_none()
     }
@@ -247,7 +260,8 @@ impl CoreState {
         ensures send { self.new.send ≡ self.old.send }
         ensures recv { self.new.recv ≡ self.old.recv }
         ensures seats { (m n : ℕ) → IsAt self.old.seats.items m n → IsAt self.new.seats.items m n }
-        ensures shows { IfOk result (λ _. (core : Core Plain) (n : ℕ) → Shows self.old core → IsAt self.old.seats.items at n
+        ensures shows { IfOk result (λ _. (core : Core Plain) (n : ℕ) → Shows self.old core
+            → IsAt self.old.seats.items at n
             → Shows self.new (record core { marks = put core.marks n (mark round partition tt ∷ core.marks n) })) }
         ensures memory { IfErr result (λ _. (core : Core Plain) → Shows self.old core → Shows self.new core) }
     {
@@ -274,7 +288,8 @@ impl CoreState {
         ensures send { self.new.send ≡ self.old.send }
         ensures recv { self.new.recv ≡ self.old.recv }
         ensures seats { (m n : ℕ) → IsAt self.old.seats.items m n → IsAt self.new.seats.items m n }
-        ensures shows { IfOk result (λ _. (core : Core Plain) (n : ℕ) → Shows self.old core → IsAt self.old.seats.items at n
+        ensures shows { IfOk result (λ _. (core : Core Plain) (n : ℕ) → Shows self.old core
+            → IsAt self.old.seats.items at n
             → Shows self.new (record core { pending = put core.pending n (laid_on last piece (core.pending n)) })) }
         ensures memory { IfErr result (λ _. (core : Core Plain) → Shows self.old core → Shows self.new core) }
     {
@@ -284,9 +299,12 @@ impl CoreState {
     /// What a seat lays where it lays a partition into the piece of a word; `None` where it may not.
     pub(crate) fn lay_of(&self, at: usize, partition: u32, word: usize) -> Option<Lay>
         requires { at < length self.now.seats.items }
-        ensures some { IfSome result (λ l. (v : Seat) × (x : Pending) × (slice_get self.now.seats.items at ≡ Some v) × (v.pending ≡ Some x) × IsLay self.now.tables x partition word l) }
-        ensures none { IfNone result ((v : Seat) (x : Pending) (i : ℕ) → slice_get self.now.seats.items at ≡ Some v → v.pending ≡ Some x
-            → word ≡ number self.now.tables (Piece (x.round % self.now.tables.depth) i) → ¬ MayLay self.now.tables x partition i) }
+        ensures some { IfSome result (λ l. (v : Seat) × (x : Pending) × (slice_get self.now.seats.items at ≡ Some v)
+            × (v.pending ≡ Some x) × IsLay self.now.tables x partition word l) }
+        ensures none { IfNone result ((v : Seat) (x : Pending) (i : ℕ) → slice_get self.now.seats.items at ≡ Some v
+            → v.pending ≡ Some x
+            → word ≡ number self.now.tables (Piece (x.round % self.now.tables.depth) i)
+            → ¬ MayLay self.now.tables x partition i) }
     {
         match &self.seats[at].pending {
             Some(pending) => lay_of(&self.tables, pending, partition, word),
@@ -301,7 +319,8 @@ impl CoreState {
         requires number { view.seat < 2 ^ 32 }
         ensures tables { self.new.tables ≡ self.old.tables }
         ensures at { IfOk result (λ at. IsAt self.new.seats.items at view.seat) }
-        ensures shows { IfOk result (λ _. (core : Core Plain) → Shows self.old core → Shows self.new (enters view.seat core)) }
+        ensures shows { IfOk result (λ _. (core : Core Plain) → Shows self.old core
+            → Shows self.new (enters view.seat core)) }
         ensures memory { IfErr result (λ _. (core : Core Plain) → Shows self.old core → Shows self.new core) }
     {
         let at = self.seats.len();
@@ -319,7 +338,8 @@ impl CoreState {
     pub(crate) fn enter(&mut self, alloc: Global, seat: u32) -> Result<usize, AllocError>
         ensures tables { self.new.tables ≡ self.old.tables }
         ensures at { IfOk result (λ at. IsAt self.new.seats.items at seat) }
-        ensures shows { IfOk result (λ _. (core : Core Plain) → Shows self.old core → Shows self.new (enters seat core)) }
+        ensures shows { IfOk result (λ _. (core : Core Plain) → Shows self.old core
+            → Shows self.new (enters seat core)) }
         ensures memory { IfErr result (λ _. (core : Core Plain) → Shows self.old core → Shows self.new core) }
     {
         if let Some(at) = self.find(seat) {

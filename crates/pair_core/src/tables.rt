@@ -1,6 +1,7 @@
 //! What the state needs of its geometry, worked out once.
 
-ghost use Rattle.std.specs.Prelude.{◌≢◌, ◌/◌, false, ◌↔◌, ℕ, IsTrue, IfSome, IfNone, ◌≡◌, ◌+◌, ◌*◌, ◌-◌, ◌%◌, ◌<◌, ◌≤◌, IfOk, length, map};
+ghost use Rattle.std.specs.Prelude.{◌≢◌, ◌/◌, false, ◌↔◌, ℕ, IsTrue, IfSome, IfNone, ◌≡◌, ◌+◌, ◌*◌, ◌-◌, ◌%◌, ◌<◌, ◌≤◌};
+ghost use Rattle.std.specs.Prelude.{IfOk, length, map};
 ghost use Rattle.std.specs.List.{range_with_len};
 ghost use Rattle.part_geometry.specs.Shape.{IsShape};
 ghost use Rattle.part_geometry.specs.Cells.{cells, send_of, recv_of};
@@ -12,21 +13,9 @@ ghost use Rattle.pair_core.specs.State.{word_count};
 
 use crate::bits::bit_of;
 use gate_word::round_of;
-use part_geometry::{Cell, CellWalk, Geometry};
+use part_geometry::{Cell, Geometry, all_cells};
 use std::alloc::{AllocError, Global};
 use std::marker::Model;
-
-/// The cells of a geometry, in order.
-fn all_cells(alloc: Global, geometry: Geometry) -> Result<Vec<Cell>, AllocError>
-    ensures { IfOk result (λ all. all.items ≡ map (cell_at geometry) (range_with_len 0 (cells geometry))) }
-{
-    let mut all = Vec::new(alloc);
-    let mut walk = CellWalk::new(geometry);
-    while let Some(cell) = walk.advance() {
-        all.push(cell)?;
-    }
-    Ok(all)
-}
 
 /// The first send partition of each piece.
 fn first_parts(alloc: Global, geometry: Geometry) -> Result<Vec<u32>, AllocError>
@@ -249,7 +238,9 @@ impl Tables {
 
     /// Whether a number is that of a piece word.
     pub(crate) fn is_piece(&self, word: usize) -> bool
-        ensures some { IsTrue result → (d : ℕ) × (i : ℕ) × Fits self.now (Piece d i) × (word ≡ number self.now (Piece d i)) × (word < word_count self.now) }
+        ensures some { IsTrue result
+            → (d : ℕ) × (i : ℕ) × Fits self.now (Piece d i) × (word ≡ number self.now (Piece d i))
+            × (word < word_count self.now) }
         ensures none { result ≡ false → (d i : ℕ) → Fits self.now (Piece d i) → word ≢ number self.now (Piece d i) }
     {
         let geometry = self.geometry();

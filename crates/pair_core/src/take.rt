@@ -46,7 +46,8 @@ impl CoreState {
     /// Whether each receive partition is taken and given back.
     fn are_back(&self) -> bool
         ensures { (core : Core Plain) → Shows self.now core
-            → IsTrue result ↔ ((q : ℕ) → q < self.now.tables.recv_parts → (part_bit (λ t. core.word (Take t)) q ≡ 1) × (part_bit (λ t. core.word (Return t)) q ≡ 1)) }
+            → IsTrue result ↔ ((q : ℕ) → q < self.now.tables.recv_parts → (part_bit (λ t. core.word (Take t)) q ≡ 1)
+            × (part_bit (λ t. core.word (Return t)) q ≡ 1)) }
     {
         let geometry = self.tables.geometry();
         for q in 0..geometry.recv_parts() {
@@ -64,7 +65,8 @@ impl CoreState {
     pub(crate) fn store_release(&mut self, event: &Event) -> Applied
         requires { event.now.kind ≡ 13 }
         ensures tables { self.new.tables ≡ self.old.tables }
-        ensures becomes { (core : Core Plain) → Shows self.old core → Becomes self.old.tables event.now (Shows self.new) core result }
+        ensures becomes { (core : Core Plain) → Shows self.old core
+            → Becomes self.old.tables event.now (Shows self.new) core result }
     {
         let recv = self.recv;
         let release = self.tables.claim_words();
@@ -95,7 +97,9 @@ impl CoreState {
     fn sees_cell(&self, round: u32, q: u32, c: usize) -> bool
         requires { c < cells self.now.tables }
         ensures { (core : Core Plain) → Shows self.now core → IsTrue result ↔ (recv_of self.now.tables c ≡ q
-            → IsFull self.now.tables (core.seen 1 (Piece (round % self.now.tables.depth) (piece_of self.now.tables c))) round (piece_of self.now.tables c)) }
+            → IsFull self.now.tables
+            (core.seen 1 (Piece (round % self.now.tables.depth) (piece_of self.now.tables c))) round
+            (piece_of self.now.tables c)) }
     {
         let _geometry = self.tables.geometry();
         let cell = self.tables.cell(c);
@@ -107,7 +111,8 @@ impl CoreState {
 
     /// Whether the receive side has seen each piece over a receive partition full in a round.
     fn sees_over(&self, round: u32, q: u32) -> bool
-        ensures { (core : Core Plain) → Shows self.now core → IsTrue result ↔ AreSeen self.now.tables (core.seen 1) round q }
+        ensures { (core : Core Plain) → Shows self.now core
+            → IsTrue result ↔ AreSeen self.now.tables (core.seen 1) round q }
     {
         let _geometry = self.tables.geometry();
         for c in 0..self.tables.cells() {
@@ -122,7 +127,8 @@ impl CoreState {
     pub(crate) fn take_part(&mut self, event: &Event) -> Result<Applied, AllocError>
         requires { event.now.kind ≡ 11 }
         ensures tables { self.new.tables ≡ self.old.tables }
-        ensures becomes { IfOk result (λ r. (core : Core Plain) → Shows self.old core → Becomes self.old.tables event.now (Shows self.new) core r) }
+        ensures becomes { IfOk result (λ r. (core : Core Plain) → Shows self.old core
+            → Becomes self.old.tables event.now (Shows self.new) core r) }
         ensures memory { IfErr result (λ _. (core : Core Plain) → Shows self.old core → Shows self.new core) }
     {
         let round = self.recv.round;
@@ -162,7 +168,8 @@ impl CoreState {
     pub(crate) fn return_part(&mut self, event: &Event) -> Applied
         requires { event.now.kind ≡ 12 }
         ensures tables { self.new.tables ≡ self.old.tables }
-        ensures becomes { (core : Core Plain) → Shows self.old core → Becomes self.old.tables event.now (Shows self.new) core result }
+        ensures becomes { (core : Core Plain) → Shows self.old core
+            → Becomes self.old.tables event.now (Shows self.new) core result }
     {
         let round = self.recv.round;
         let q = event.partition;

@@ -8,6 +8,6 @@ returns-clause-shows c = λ core shows. record {
   send_are = shows.send_are;
   recv_are = refl;
   seats_are = λ at v is. let view = shows.seats_are at v is in record { live = view.live; seen = view.seen; looks = view.looks; pending = view.pending; marks = view.marks };
-  others_are = λ n none. let b = shows.others_are n none in record { blank = b.blank; seen = b.seen; looks = b.looks; pending = b.pending; marks = b.marks };
+  others_are = λ n none. let b = shows.others_are n none in record { blank = b.blank; new = b.new };
   takes_are = shows.takes_are;
 }

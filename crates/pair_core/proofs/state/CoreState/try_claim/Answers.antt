@@ -1,15 +1,56 @@
-use Rattle.std.proofs.Common.{◌≡◌, ◌≢◌, ◌<◌, ◌/◌, ◌==◌, ◌∙◌, ℕ, None, refl, sym, subst, ap, true≢false, arith}
+use Rattle.std.proofs.Common.{◌≡◌, ◌≢◌, ◌<◌, ◌≤◌, ◌/◌, ◌==◌, ◌∙◌, ℕ, None, refl, sym, subst, ap, true≢false, arith}
 use Rattle.part_geometry.specs.Shape.{Shape}
 use Rattle.pair_core.specs.Names.{Claim, claim_words}
+use Rattle.pair_core.specs.Core.{IsMarker}
 use Rattle.pair_core.specs.Moves.{TryClaim, IsAllowed, MayClaim}
 use Rattle.pair_core.specs.History.{Mark}
 use Rattle.pair_core.specs.Shows.{Shows}
+use Rattle.pair_core.specs.declared.view.Life.TheVariants.{Live}
 use Rattle.pair_core.proofs.Cut.{claim_word}
 use Rattle.pair_core.proofs.StateReads.{reads_7}
 use Rattle.pair_core.proofs.StateAdds.{view_live}
 use Rattle.pair_core.proofs.StateBecomes.{becomes_quiet, no_out, no_take}
 use Rattle.pair_core.proofs.StateClaim.{won, lost}
 use Rattle.pair_core.proofs.state.CoreState.try_claim.Goals as goal
+use Rattle.pair_core.proofs.state.CoreState.try_claim.Goals.{then-event-lt2-via-then-event-lt2, then-event-lt2-via-else-event-lt2+then-event-ne0}
+
+-- a seat that may claim is a marker, of a partition of the pair, on the partition's claim word, and has a view
+pub returns-then-event-lt2-clause-becomes : goal.returns-then-event-lt2-clause-becomes
+returns-then-event-lt2-clause-becomes c = λ core shows.
+    let e = c.args.event.now in
+    let other : ¬ IsMarker e.seat = elim c.then-event-lt2.branch [
+      | then-event-lt2-via-then-event-lt2 w ↦ λ sort. let two = sort.0 in let low = w.if-event-lt2.true in omega arith
+      | then-event-lt2-via-else-event-lt2+then-event-ne0 w ↦ λ sort. w.if-event-ne0.true sort.1
+    ] in (
+      reads_7 c.args.self.now.tables core e (λ m. ¬ IsAllowed c.args.self.now.tables core m) c.requires (λ n p a reads allowed.
+          other (subst IsMarker (sym reads.0.by) allowed.0)),
+      shows,
+    )
+
+pub returns-then-p-send_parts-clause-becomes : goal.returns-then-p-send_parts-clause-becomes
+returns-then-p-send_parts-clause-becomes c = λ core shows.
+    let g = c.args.self.now.tables in let e = c.args.event.now in
+    let high : g.send_parts ≤ e.partition = omega (arith, c.if-p-send_parts.true, c.send_parts.ensures.value, ap (λ (g : Shape). g.send_parts) c.geometry.ensures.value) in (
+      reads_7 g core e (λ m. ¬ IsAllowed g core m) c.requires (λ n p a reads allowed. let is = reads.1 in let low = allowed.2 in omega arith),
+      shows,
+    )
+
+pub returns-then-event-index-clause-becomes : goal.returns-then-event-index-clause-becomes
+returns-then-event-index-clause-becomes c = λ core shows.
+    let g = c.args.self.now.tables in let e = c.args.event.now in (
+      reads_7 g core e (λ m. ¬ IsAllowed g core m) c.requires (λ n p a reads allowed.
+          c.if-event-index.true (reads.0.on ∙ ap (λ (z : ℕ). z / 32) (sym reads.1))),
+      shows,
+    )
+
+pub returns-in_default-clause-becomes : goal.returns-in_default-clause-becomes
+returns-in_default-clause-becomes c = λ core shows.
+    let g = c.args.self.now.tables in let e = c.args.event.now in
+    let blank = (shows.others_are e.seat c.in_default.ensures.none).blank in (
+      reads_7 g core e (λ m. ¬ IsAllowed g core m) c.requires (λ n p a reads allowed.
+          let live : core.life e.seat ≡ Live = ap core.life reads.0.by ∙ allowed.1 in absurd (cc)),
+      shows,
+    )
 
 pub returns-then-not-is_free-clause-becomes : goal.returns-then-not-is_free-clause-becomes
 returns-then-not-is_free-clause-becomes c = λ core shows.
