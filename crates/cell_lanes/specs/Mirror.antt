@@ -1,4 +1,4 @@
--- Weights that are the same on both sides of the middle row and of the middle column.
+-- Weights that are the same on both sides of the middle row and of the middle column: for private functions.
 use Rattle.std.specs.Prelude.{◌≡◌, ℕ, ◌+◌, ◌*◌, ◌-◌, ◌<◌, ◌≤◌, nat_lt, if◌then◌else◌, ℤ, pos, ◌+ℤ◌, ◌*ℤ◌, Bool, true, List, length, slice_index_or}
 use Rattle.std.specs.List.{All}
 use Rattle.stencil_def.specs.Limits.{IsWeight}

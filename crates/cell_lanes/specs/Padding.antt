@@ -1,4 +1,4 @@
--- A grid with more rows and columns on each side, as many as the weights reach.
+-- A grid with more rows and columns on each side, as many as the weights reach: for private functions.
 use Rattle.std.specs.Prelude.{◌≡◌, ℕ, ◌+◌, ◌*◌, ◌<◌, ℤ, pos, ◌-ℤ◌, int_div, List, slice_index_or, Option, Some, None}
 use Rattle.stencil_def.specs.declared.rule.Rule.{Rule}
 use Rattle.stencil_def.specs.Step.{place, clamped}

@@ -2,15 +2,15 @@
 
 ghost use Rattle.std.specs.Prelude.{◌≡◌, ℕ, ℤ, ◌+◌, ◌*◌, ◌<◌, ◌≤◌, pos, length, slice_index_or, IfOk};
 ghost use Rattle.std.specs.List.{All};
-ghost use Rattle.stencil_def.specs.Limits.{IsWithin, IsValue};
+ghost use Rattle.stencil_def.specs.Limits.{IsSide, IsValue};
 ghost use Rattle.stencil_def.specs.Plane.{Plane, IsPlane, cell};
 ghost use Rattle.stencil_def.specs.Step.{new_cell};
-ghost use Rattle.cell_lanes.specs.Padding.{with_ends, or_edge, end_or, row_value, IsPadded, RowsAre};
+ghost use Rattle.cell_lanes.specs.Padding.{with_ends, end_or, row_value, IsPadded, RowsAre};
 
-use crate::row::{copied_row, next_row, place_at};
+use crate::row::{copied_row, end_value, next_row};
 use crate::{Divisor, LaneWeights};
 use std::alloc::{AllocError, Global};
-use stencil_def::{Grid, Rule};
+use stencil_def::{Grid, MAX_CELLS, Rule};
 
 /// Where row `y` starts, with this many places in each row.
 fn start_of(y: u32, width: u32) -> usize
@@ -21,28 +21,10 @@ fn start_of(y: u32, width: u32) -> usize
     (y * width) as usize
 }
 
-/// What stands in row `y` and column `x`, where the grid's own rows are there with their ends.
-fn end_value(rule: &Rule, rows: u32, cols: u32, y: u32, x: u32, values: &[i64]) -> i64
-    requires rows { IsWithin 1 4096 rows }
-    requires cols { IsWithin 1 4096 cols }
-    requires length { length values.now ≡ with_ends rule.now rows * with_ends rule.now cols }
-    requires values { All IsValue values.now }
-    requires x { x < with_ends rule.now cols }
-    ensures value { result ≡ end_or rule.now rows (λ row. row_value rule.now cols values.now row x) y }
-    ensures limits { IsValue result }
-{
-    let reach = rule.weights.reach();
-    let width = cols + 2 * reach;
-    match place_at(rule.around, rows, y, reach) {
-        Some(row) => values[start_of(reach + row, width) + x as usize],
-        None => rule.edge,
-    }
-}
-
 /// Gives row `y`, which is none of the grid's own, what lies there.
 fn set_end_row(rule: &Rule, rows: u32, cols: u32, y: u32, values: &mut [i64])
-    requires rows { IsWithin 1 4096 rows }
-    requires cols { IsWithin 1 4096 cols }
+    requires rows { IsSide rows }
+    requires cols { IsSide cols }
     requires length { length values.old ≡ with_ends rule.now rows * with_ends rule.now cols }
     requires values { All IsValue values.old }
     requires row { y < with_ends rule.now rows }
@@ -53,17 +35,20 @@ fn set_end_row(rule: &Rule, rows: u32, cols: u32, y: u32, values: &mut [i64])
     ensures above { (k : ℕ) → (y + 1) * with_ends rule.now cols ≤ k → slice_index_or values.new k (pos 0) ≡ slice_index_or values.old k (pos 0) }
     ensures values { All IsValue values.new }
 {
-    let width = cols + 2 * rule.weights.reach();
+    let reach = rule.weights.reach();
+    let width = cols + 2 * reach;
     let start = start_of(y, width);
+    let own = start_of(reach, width);
     for x in 0..width {
-        values[start + x as usize] = end_value(rule, rows, cols, y, x, values);
+        let first = own + x as usize;
+        values[start + x as usize] = end_value(rule, rows, y, values, first, width as usize);
     }
 }
 
 /// Gives the rows from `from` up to and without `to`, which are all before or all behind the grid's own, what lies there.
 fn set_end_rows(rule: &Rule, rows: u32, cols: u32, from: u32, to: u32, values: &mut [i64])
-    requires rows { IsWithin 1 4096 rows }
-    requires cols { IsWithin 1 4096 cols }
+    requires rows { IsSide rows }
+    requires cols { IsSide cols }
     requires length { length values.old ≡ with_ends rule.now rows * with_ends rule.now cols }
     requires values { All IsValue values.old }
     requires order { from ≤ to }
@@ -83,8 +68,8 @@ fn set_end_rows(rule: &Rule, rows: u32, cols: u32, from: u32, to: u32, values: &
 
 /// Gives all rows before and behind the grid's own what lies there.
 fn set_all_end_rows(rule: &Rule, rows: u32, cols: u32, values: &mut [i64])
-    requires rows { IsWithin 1 4096 rows }
-    requires cols { IsWithin 1 4096 cols }
+    requires rows { IsSide rows }
+    requires cols { IsSide cols }
     requires length { length values.old ≡ with_ends rule.now rows * with_ends rule.now cols }
     requires values { All IsValue values.old }
     ensures padded { (own : ℕ → ℕ → ℤ) → RowsAre own rule.now cols values.old rows → IsPadded own rule.now rows cols values.new }
@@ -122,8 +107,8 @@ fn next_rows(
     cols: u32,
     next: &mut [i64],
 )
-    requires rows { IsWithin 1 4096 rows }
-    requires cols { IsWithin 1 4096 cols }
+    requires rows { IsSide rows }
+    requires cols { IsSide cols }
     requires length { length values.now ≡ with_ends rule.now rows * with_ends rule.now cols }
     requires same_length { length next.old ≡ length values.now }
     requires values { All IsValue values.now }
@@ -184,8 +169,8 @@ pub(crate) fn next_padded(
     cols: u32,
     next: &mut [i64],
 )
-    requires rows { IsWithin 1 4096 rows }
-    requires cols { IsWithin 1 4096 cols }
+    requires rows { IsSide rows }
+    requires cols { IsSide cols }
     requires length { length values.now ≡ with_ends rule.now rows * with_ends rule.now cols }
     requires same_length { length next.old ≡ length values.now }
     requires values { All IsValue values.now }
@@ -224,9 +209,9 @@ pub(crate) fn middle(
     rows: u32,
     cols: u32,
 ) -> Result<Grid, AllocError>
-    requires rows { IsWithin 1 4096 rows }
-    requires cols { IsWithin 1 4096 cols }
-    requires cells { rows * cols ≤ 1000000 }
+    requires rows { IsSide rows }
+    requires cols { IsSide cols }
+    requires cells { rows * cols ≤ MAX_CELLS }
     requires length { length values.now ≡ with_ends rule.now rows * with_ends rule.now cols }
     requires values { All IsValue values.now }
     ensures cells { IfOk result (λ grid. (g : Plane) → g.rows ≡ rows → g.cols ≡ cols → length g.values ≡ rows * cols →

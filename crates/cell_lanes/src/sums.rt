@@ -7,7 +7,8 @@ ghost use Rattle.stencil_def.specs.Square.{side};
 ghost use Rattle.stencil_def.specs.Step.{clamped};
 ghost use Rattle.cell_lanes.specs.Lanes.{two};
 ghost use Rattle.cell_lanes.specs.Mirror.{HasLimits, IsMirrored};
-ghost use Rattle.cell_lanes.specs.Sizes.{IsSum, IsRowSum};
+ghost use Rattle.cell_lanes.specs.Parts.{IsRowSum};
+ghost use Rattle.cell_lanes.specs.Sizes.{IsSum};
 ghost use Rattle.cell_lanes.specs.Window.{row_sum_at, sum_at};
 
 use crate::lanes::{LANES, plus, times, values_met};
@@ -145,7 +146,7 @@ fn sums_at_reach(
     }
 }
 
-/// The sums of all cells of the row, with a loop of its own for each reach and for mirrored weights.
+/// The sums of all cells of the row, with a loop of its own for each reach.
 ///
 /// The weights come from memory that this function doesn't make, so that a compiler keeps them as vectors.
 #[inline(never)]
@@ -157,16 +158,9 @@ fn row_sums(window: &[i64], width: u32, weights: &LaneWeights, out: &mut [i64])
     ensures limits { All IsSum out.new }
 {
     let is_mirrored = weights.is_mirrored();
-    if weights.weights().reach() == 1 {
-        if is_mirrored {
-            sums_at_reach(window, width as usize, weights, 1, true, out);
-        } else {
-            sums_at_reach(window, width as usize, weights, 1, false, out);
-        }
-    } else if is_mirrored {
-        sums_at_reach(window, width as usize, weights, 2, true, out);
-    } else {
-        sums_at_reach(window, width as usize, weights, 2, false, out);
+    match weights.weights().reach() {
+        1 => sums_at_reach(window, width as usize, weights, 1, is_mirrored, out),
+        _ => sums_at_reach(window, width as usize, weights, 2, is_mirrored, out),
     }
 }
 
