@@ -9,7 +9,6 @@ use grid_text::TextFault;
 use itoa::Buffer;
 use part_io::Sink;
 use script_text::ScriptFault;
-use thiserror::Error;
 
 /// The most bytes of a line of notes.
 const MAX_LINE: usize = 160;
@@ -18,7 +17,7 @@ const MAX_LINE: usize = 160;
 pub type Line = ArrayString<MAX_LINE>;
 
 /// A text that a command reads from a file.
-#[derive(Clone, Copy, Debug, PartialEq, Eq)]
+#[derive(Clone, Copy, Debug)]
 pub enum TextName {
     /// The weights of a stencil.
     Weights,
@@ -29,28 +28,21 @@ pub enum TextName {
 }
 
 /// Why a run ends without its output.
-#[derive(Clone, Copy, Debug, PartialEq, Eq, Error)]
+#[derive(Clone, Copy, Debug)]
 pub enum Note {
     /// The words are no command line of the program.
-    #[error("the words are no command line")]
     Usage,
     /// The file is longer than such a text may be.
-    #[error("the text is too long")]
     TooLong(TextName),
     /// The script's text is refused.
-    #[error("the script is refused")]
     BadScript(ScriptFault),
     /// The text of a grid or of weights is refused.
-    #[error("the text is refused")]
     BadText(TextName, TextFault),
     /// The file could not be read, or isn't there.
-    #[error("the file could not be read")]
     CannotRead(TextName),
     /// The output could not be written, or not all of it.
-    #[error("the output could not be written")]
     CannotWrite,
     /// Memory ran out.
-    #[error("out of memory")]
     OutOfMemory,
 }
 
