@@ -72,15 +72,15 @@ fn sums_are_divided_toward_zero_and_clamped(rt: HostRuntime) {
     }
 }
 
-/// A grid of three rows and this many columns, with values of both signs.
-fn uneven(rt: &impl Abort, alloc: Global, cols: u32, factor: i64) -> Grid {
-    assert!(rt; cols >= 1 && cols <= 40 && factor >= 0 && factor <= 489_999_999);
+/// A grid of three rows and this many columns, with small values or with great ones.
+fn uneven(rt: &impl Abort, alloc: Global, cols: u32, is_great: bool) -> Grid {
+    assert!(rt; cols >= 1 && cols <= 40);
     let mut grid = Grid::zeros(alloc, 3, cols).expect(rt, "memory");
     for row in 0..3 {
         for col in 0..cols {
             if row < grid.rows() && col < grid.cols() {
-                let value = i64::from(row * 37 + col * 11) - 700;
-                grid.set(row, col, value * factor);
+                let small = i64::from(row * 37 + col * 11) - 700;
+                grid.set(row, col, if is_great { small * 489_999_999 } else { small });
             }
         }
     }
@@ -109,12 +109,7 @@ fn each_length_is_as_the_plain_run(rt: HostRuntime) {
         rule_of(Weights::new(&MANY_MIRRORED), 25, Around::Fixed),
     ] {
         for cols in 1..41 {
-            let grid = uneven(
-                &rt,
-                alloc,
-                cols,
-                if cols % 2 == 0 { 1 } else { 489_999_999 },
-            );
+            let grid = uneven(&rt, alloc, cols, cols % 2 == 1);
             let lanes = run_lanes(alloc, &grid, &rule, 3).expect(&rt, "memory");
             let plain = run_plain(alloc, &grid, &rule, 3).expect(&rt, "memory");
             assert_eq!(rt; lanes.values(), plain.values(), "{cols} columns");
