@@ -29,10 +29,13 @@ fn set_end_row(rule: &Rule, rows: u32, cols: u32, y: u32, values: &mut [i64])
     requires values { All IsValue values.old }
     requires row { y < with_ends rule.now rows }
     requires outside { (row : ℕ) → row < rows → rule.now.weights.reach + row ≡ y → ⊥ }
-    ensures row { (x : ℕ) → x < with_ends rule.now cols → slice_index_or values.new (y * with_ends rule.now cols + x) (pos 0) ≡
+    ensures row { (x : ℕ) → x < with_ends rule.now cols →
+        slice_index_or values.new (y * with_ends rule.now cols + x) (pos 0) ≡
         end_or rule.now rows (λ row. row_value rule.now cols values.old row x) y }
-    ensures below { (k : ℕ) → k < y * with_ends rule.now cols → slice_index_or values.new k (pos 0) ≡ slice_index_or values.old k (pos 0) }
-    ensures above { (k : ℕ) → (y + 1) * with_ends rule.now cols ≤ k → slice_index_or values.new k (pos 0) ≡ slice_index_or values.old k (pos 0) }
+    ensures below { (k : ℕ) → k < y * with_ends rule.now cols →
+        slice_index_or values.new k (pos 0) ≡ slice_index_or values.old k (pos 0) }
+    ensures above { (k : ℕ) → (y + 1) * with_ends rule.now cols ≤ k →
+        slice_index_or values.new k (pos 0) ≡ slice_index_or values.old k (pos 0) }
     ensures values { All IsValue values.new }
 {
     let reach = rule.weights.reach();
@@ -45,7 +48,8 @@ fn set_end_row(rule: &Rule, rows: u32, cols: u32, y: u32, values: &mut [i64])
     }
 }
 
-/// Gives the rows from `from` up to and without `to`, which are all before or all behind the grid's own, what lies there.
+/// Gives the rows from `from` up to and without `to`, which are all before or all behind the grid's own, what lies
+/// there.
 fn set_end_rows(rule: &Rule, rows: u32, cols: u32, from: u32, to: u32, values: &mut [i64])
     requires rows { IsSide rows }
     requires cols { IsSide cols }
@@ -53,12 +57,15 @@ fn set_end_rows(rule: &Rule, rows: u32, cols: u32, from: u32, to: u32, values: &
     requires values { All IsValue values.old }
     requires order { from ≤ to }
     requires end { to ≤ with_ends rule.now rows }
-    requires outside { (row : ℕ) → row < rows → from ≤ rule.now.weights.reach + row → rule.now.weights.reach + row < to → ⊥ }
+    requires outside { (row : ℕ) → row < rows → from ≤ rule.now.weights.reach + row →
+        rule.now.weights.reach + row < to → ⊥ }
     ensures ends { (y x : ℕ) → from ≤ y → y < to → x < with_ends rule.now cols →
         slice_index_or values.new (y * with_ends rule.now cols + x) (pos 0) ≡
         end_or rule.now rows (λ row. row_value rule.now cols values.old row x) y }
-    ensures below { (k : ℕ) → k < from * with_ends rule.now cols → slice_index_or values.new k (pos 0) ≡ slice_index_or values.old k (pos 0) }
-    ensures above { (k : ℕ) → to * with_ends rule.now cols ≤ k → slice_index_or values.new k (pos 0) ≡ slice_index_or values.old k (pos 0) }
+    ensures below { (k : ℕ) → k < from * with_ends rule.now cols →
+        slice_index_or values.new k (pos 0) ≡ slice_index_or values.old k (pos 0) }
+    ensures above { (k : ℕ) → to * with_ends rule.now cols ≤ k →
+        slice_index_or values.new k (pos 0) ≡ slice_index_or values.old k (pos 0) }
     ensures values { All IsValue values.new }
 {
     for y in from..to {
@@ -72,7 +79,8 @@ fn set_all_end_rows(rule: &Rule, rows: u32, cols: u32, values: &mut [i64])
     requires cols { IsSide cols }
     requires length { length values.old ≡ with_ends rule.now rows * with_ends rule.now cols }
     requires values { All IsValue values.old }
-    ensures padded { (own : ℕ → ℕ → ℤ) → RowsAre own rule.now cols values.old rows → IsPadded own rule.now rows cols values.new }
+    ensures padded { (own : ℕ → ℕ → ℤ) → RowsAre own rule.now cols values.old rows →
+        IsPadded own rule.now rows cols values.new }
     ensures values { All IsValue values.new }
 {
     let reach = rule.weights.reach();
@@ -147,8 +155,10 @@ pub(crate) fn zeros(alloc: Global, len: usize) -> Result<Vec<i64>, AllocError>
 
 /// The grid with more rows and columns on each side.
 pub(crate) fn padded(alloc: Global, grid: &Grid, rule: &Rule) -> Result<Vec<i64>, AllocError>
-    ensures length { IfOk result (λ values. length values.items ≡ with_ends rule.now grid.now.rows * with_ends rule.now grid.now.cols) }
-    ensures padded { IfOk result (λ values. IsPadded (cell grid.now) rule.now grid.now.rows grid.now.cols values.items) }
+    ensures length { IfOk result (λ values. length values.items ≡
+        with_ends rule.now grid.now.rows * with_ends rule.now grid.now.cols) }
+    ensures padded { IfOk result (λ values.
+        IsPadded (cell grid.now) rule.now grid.now.rows grid.now.cols values.items) }
     ensures values { IfOk result (λ values. All IsValue values.items) }
 {
     let reach = rule.weights.reach();
@@ -192,8 +202,10 @@ fn set_row(grid: &mut Grid, row: u32, cells: &[i64])
     requires values { All IsValue cells.now }
     ensures rows { grid.new.rows ≡ grid.old.rows }
     ensures cols { grid.new.cols ≡ grid.old.cols }
-    ensures row { (col : ℕ) → col < grid.old.cols → slice_index_or grid.new.values (row * grid.old.cols + col) (pos 0) ≡ slice_index_or cells.now col (pos 0) }
-    ensures below { (k : ℕ) → k < row * grid.old.cols → slice_index_or grid.new.values k (pos 0) ≡ slice_index_or grid.old.values k (pos 0) }
+    ensures row { (col : ℕ) → col < grid.old.cols →
+        slice_index_or grid.new.values (row * grid.old.cols + col) (pos 0) ≡ slice_index_or cells.now col (pos 0) }
+    ensures below { (k : ℕ) → k < row * grid.old.cols →
+        slice_index_or grid.new.values k (pos 0) ≡ slice_index_or grid.old.values k (pos 0) }
     ensures limits { IsPlane grid.new }
 {
     for col in 0..grid.cols() {

@@ -32,7 +32,8 @@ pub(crate) fn end_value(
     }
 }
 
-/// Gives the places from `from` up to and without `to`, which are all before or all behind the row's own, what lies there.
+/// Gives the places from `from` up to and without `to`, which are all before or all behind the row's own, what lies
+/// there.
 fn set_ends(rule: &Rule, cols: u32, from: u32, to: u32, row: &mut [i64])
     requires cols { IsSide cols }
     requires row { length row.old ≡ with_ends rule.now cols }
@@ -41,7 +42,8 @@ fn set_ends(rule: &Rule, cols: u32, from: u32, to: u32, row: &mut [i64])
     requires end { to ≤ length row.old }
     requires outside { (x : ℕ) → x < cols → from ≤ rule.now.weights.reach + x → rule.now.weights.reach + x < to → ⊥ }
     ensures ends { (x : ℕ) → from ≤ x → x < to →
-        slice_index_or row.new x (pos 0) ≡ end_or rule.now cols (λ col. slice_index_or row.old (rule.now.weights.reach + col) (pos 0)) x }
+        slice_index_or row.new x (pos 0) ≡
+        end_or rule.now cols (λ col. slice_index_or row.old (rule.now.weights.reach + col) (pos 0)) x }
     ensures below { (x : ℕ) → x < from → slice_index_or row.new x (pos 0) ≡ slice_index_or row.old x (pos 0) }
     ensures above { (x : ℕ) → to ≤ x → slice_index_or row.new x (pos 0) ≡ slice_index_or row.old x (pos 0) }
     ensures values { All IsValue row.new }
@@ -69,7 +71,8 @@ pub(crate) fn next_row(
     requires row { length row.old ≡ with_ends rule.now cols }
     requires old { All IsValue row.old }
     ensures cells { (x : ℕ) → x < with_ends rule.now cols →
-        slice_index_or row.new x (pos 0) ≡ end_or rule.now cols (λ col. new_at rule.now window.now (with_ends rule.now cols) col) x }
+        slice_index_or row.new x (pos 0) ≡
+        end_or rule.now cols (λ col. new_at rule.now window.now (with_ends rule.now cols) col) x }
     ensures length { length row.new ≡ with_ends rule.now cols }
     ensures values { All IsValue row.new }
 {

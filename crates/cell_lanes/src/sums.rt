@@ -1,6 +1,7 @@
 //! The weighted sums of a row.
 
-ghost use Rattle.std.specs.Prelude.{◌≡◌, ℕ, ◌+◌, ◌*◌, ◌<◌, ◌≤◌, ◌*ℤ◌, true, pos, int_div, length, slice_index_or, unsigned_abs};
+ghost use Rattle.std.specs.Prelude.{◌≡◌, ℕ, ◌+◌, ◌*◌, ◌<◌, ◌≤◌, ◌*ℤ◌, true, pos, int_div, length, slice_index_or};
+ghost use Rattle.std.specs.Prelude.{unsigned_abs};
 ghost use Rattle.std.specs.List.{All};
 ghost use Rattle.stencil_def.specs.Limits.{IsWithin, IsWeight, IsValue};
 ghost use Rattle.stencil_def.specs.Square.{side};
@@ -128,7 +129,8 @@ fn sums_at_reach(
     requires weights { HasLimits weights.now }
     requires mirrored { is_mirrored ≡ true → IsMirrored weights.now }
     requires out { length out.old + 2 * reach ≡ width }
-    ensures sums { (x : ℕ) → x < length out.old → slice_index_or out.new x (pos 0) ≡ sum_at weights.now window.now width x }
+    ensures sums { (x : ℕ) → x < length out.old →
+        slice_index_or out.new x (pos 0) ≡ sum_at weights.now window.now width x }
     ensures limits { All IsSum out.new }
 {
     let mut x = 0;
@@ -154,7 +156,8 @@ fn row_sums(window: &[i64], width: u32, weights: &LaneWeights, out: &mut [i64])
     requires window { length window.now ≡ side weights.now * width }
     requires values { All IsValue window.now }
     requires out { length out.old + 2 * weights.now.reach ≡ width }
-    ensures sums { (x : ℕ) → x < length out.old → slice_index_or out.new x (pos 0) ≡ sum_at weights.now window.now width x }
+    ensures sums { (x : ℕ) → x < length out.old →
+        slice_index_or out.new x (pos 0) ≡ sum_at weights.now window.now width x }
     ensures limits { All IsSum out.new }
 {
     let is_mirrored = weights.is_mirrored();
@@ -173,7 +176,8 @@ pub fn window_sums(window: &[i64], width: u32, weights: &Weights, out: &mut [i64
     requires window { length window.now ≡ side weights.now * width }
     requires values { All IsValue window.now }
     requires out { length out.old + 2 * weights.now.reach ≡ width }
-    ensures sums { (x : ℕ) → x < length out.old → slice_index_or out.new x (pos 0) ≡ sum_at weights.now window.now width x }
+    ensures sums { (x : ℕ) → x < length out.old →
+        slice_index_or out.new x (pos 0) ≡ sum_at weights.now window.now width x }
     ensures limits { All IsSum out.new }
 {
     row_sums(window, width, &LaneWeights::new(*weights), out);

@@ -1,5 +1,6 @@
 -- What is wrong with a text: its faults in the order in which they are tried. The first is the answer.
-use Rattle.std.specs.Prelude.{ℕ, ◌*◌, ◌==◌, Bool, ◌||◌, not, nat_lt, if◌then◌else◌, ℤ, pos, unsigned_abs, List, [], ◌∷◌, ◌++◌, length, map, unwrap_or, Result, Ok, Err}
+use Rattle.std.specs.Prelude.{ℕ, ◌*◌, ◌==◌, Bool, ◌||◌, not, nat_lt, if◌then◌else◌, ℤ, pos, unsigned_abs, List, [], ◌∷◌}
+use Rattle.std.specs.Prelude.{◌++◌, length, map, unwrap_or, Result, Ok, Err}
 use Rattle.std.specs.List.{enumerate_from, flat_map}
 use Rattle.stencil_def.specs.declared.limits.TheConstants.{MAX_CELLS, MAX_SIDE, MAX_VALUE, MAX_WEIGHT}
 use Rattle.grid_text.specs.declared.fault.TextFault.{TextFault}

@@ -6,7 +6,7 @@ ghost use Rattle.grid_text.specs.declared.fault.TextFault.TheVariants.{NoMemory}
 use std::alloc::{AllocError, AllocFailed};
 
 /// Why a text gives no grid or no weights. Rows and columns are numbered from 1.
-#[derive(Clone, Copy, Debug, PartialEq, Eq)]
+#[derive(Clone, Copy)]
 pub enum TextFault {
     /// The text has no record.
     Empty,

@@ -1,8 +1,10 @@
 //! The rows of a text, which is of a grid or of weights, and what is wrong with them.
 
-ghost use Rattle.std.specs.Prelude.{◌≡◌, ◌≢◌, ◌∷◌, ◌++◌, ◌<◌, ◌≤◌, ◌^◌, ◌==◌, if◌then◌else◌, ℕ, List, [], length, map, OnOk, IfOk, IfErr, slice_get, unsigned_abs};
+ghost use Rattle.std.specs.Prelude.{◌≡◌, ◌≢◌, ◌∷◌, ◌++◌, ◌<◌, ◌≤◌, ◌^◌, ◌==◌, if◌then◌else◌, ℕ, List, [], length, map};
+ghost use Rattle.std.specs.Prelude.{OnOk, IfOk, IfErr, slice_get, unsigned_abs};
 ghost use Rattle.csv.specs.Records.{fields_of};
-ghost use Rattle.grid_text.specs.Faults.{field_faults, is_bad_weights, is_too_large, limit_of, numbered, rows_faults, shape_faults, value_of};
+ghost use Rattle.grid_text.specs.Faults.{field_faults, is_bad_weights, is_too_large, limit_of, numbered, rows_faults};
+ghost use Rattle.grid_text.specs.Faults.{shape_faults, value_of};
 ghost use Rattle.grid_text.specs.Kept.{AreKept};
 ghost use Rattle.grid_text.specs.Reading.{text_faults};
 ghost use Rattle.grid_text.specs.Records.{records_of};

@@ -4,7 +4,8 @@ ghost use Rattle.std.specs.Prelude.{◌≡◌, ◌++◌, ◌<◌, ◌≤◌, IfO
 ghost use Rattle.std.specs.Fmt.{signed_decimal};
 ghost use Rattle.std.specs.List.{All};
 ghost use Rattle.stencil_def.specs.Limits.{IsValue};
-ghost use Rattle.grid_text.specs.Printing.{check_sum, greatest, head_text, least, summary_text, tail_text, total, weighted};
+ghost use Rattle.grid_text.specs.Printing.{check_sum, greatest, head_text, least, summary_text, tail_text, total};
+ghost use Rattle.grid_text.specs.Printing.{weighted};
 
 use itoa::Buffer;
 use std::alloc::{AllocError, Global};

@@ -1,8 +1,9 @@
 //! The edge to the outside: files that are read by name, and what is written.
 //!
-//! [`Shelf`] and [`Sink`] are what the rest of the program reads from and writes to. In memory they
-//! are a [`SteadyShelf`] and a [`SteadySink`], whose contents a contract can name, and a [`MemShelf`]
-//! and a [`MemSink`], of which chosen calls fail; over the system a [`FileShelf`], an [`OutSink`] and a [`NoteSink`], of whose bytes no contract knows anything.
+//! [`Shelf`] and [`Sink`] are what the rest of the program reads from and writes to. In memory they are a
+//! [`SteadyShelf`] and a [`SteadySink`], whose contents a contract can name, and a [`MemShelf`] and a [`MemSink`], of
+//! which chosen calls fail; over the system a [`FileShelf`], an [`OutSink`] and a [`NoteSink`], of whose bytes no
+//! contract knows anything.
 #![tactic(auto)]
 
 mod answers;

@@ -49,7 +49,8 @@ impl MemShelf {
         self.shelf.put(name, bytes)
     }
 
-    /// How many reads there were. The count stops at the last of a `u32`, which is then the number of each further read.
+    /// How many reads there were. The count stops at the last of a `u32`, which is then the number of each further
+    /// read.
     pub fn reads(&self) -> u32
         ensures { result ≡ read_count self.now }
     {

@@ -63,7 +63,8 @@ impl MemSink {
     /// Adds the piece as far as it fits, where the number of the write isn't in the list, and else nothing.
     fn take(&mut self, number: u32, piece: &[u8]) -> Result<(), Failed>
         ensures adds { Writes (Some (mem_bytes self.old)) (Some (mem_bytes self.new)) piece.now result }
-        ensures done { IsOk result ↔ ((¬ Contains (failing_writes self.old) number) × (length piece.now ≤ mem_room self.old)) }
+        ensures done { IsOk result ↔ ((¬ Contains (failing_writes self.old) number) ×
+            (length piece.now ≤ mem_room self.old)) }
         ensures failing { failing_writes self.new ≡ failing_writes self.old }
         ensures writes { write_count self.new ≡ write_count self.old }
         ensures faults { mem_faults self.new ≡ mem_faults self.old }
@@ -90,7 +91,8 @@ impl Sink for MemSink {
         ensures cause { HasCause (mem_faults self.old) (mem_faults self.new) result }
 
         // What this one does.
-        ensures done { IsOk result ↔ ((¬ Contains (failing_writes self.old) (write_count self.old)) × (length piece.now ≤ mem_room self.old)) }
+        ensures done { IsOk result ↔ ((¬ Contains (failing_writes self.old) (write_count self.old)) ×
+            (length piece.now ≤ mem_room self.old)) }
         ensures failing { failing_writes self.new ≡ failing_writes self.old }
         ensures writes { Next u32.MAX (write_count self.old) (write_count self.new) }
     {

@@ -1,5 +1,6 @@
 -- A grid as contracts see it, and the limits that it keeps.
-use Rattle.std.specs.Prelude.{◌≡◌, ℕ, ◌+◌, ◌*◌, ◌≤◌, ℤ, pos, List, length, take, drop, replicate, slice_index_or, slice_set}
+use Rattle.std.specs.Prelude.{◌≡◌, ℕ, ◌+◌, ◌*◌, ◌≤◌, ℤ, pos, List, length, take, drop, replicate, slice_index_or}
+use Rattle.std.specs.Prelude.{slice_set}
 use Rattle.std.specs.List.{All}
 use Rattle.stencil_def.specs.Limits.{IsSide, IsValue}
 use Rattle.stencil_def.specs.declared.limits.TheConstants.{MAX_CELLS}

@@ -5,7 +5,7 @@ ghost use Rattle.stencil_def.specs.Limits.{IsDiv, IsValue};
 use crate::Weights;
 
 /// What lies outside the grid.
-#[derive(Clone, Copy, PartialEq, Eq)]
+#[derive(Clone, Copy)]
 pub enum Around {
     /// The edge, one value everywhere.
     Fixed,

@@ -8,7 +8,8 @@ use Rattle.stencil_top.specs.declared.status.Status.{Status}
 use Rattle.stencil_top.specs.declared.status.Status.TheVariants.{Done}
 use Rattle.stencil_top.specs.declared.note.TextName.{TextName}
 use Rattle.stencil_top.specs.declared.note.Note.{Note}
-use Rattle.stencil_top.specs.declared.note.Note.TheVariants.{Usage, TooLong, BadScript, BadText, CannotRead, CannotWrite, OutOfMemory}
+use Rattle.stencil_top.specs.declared.note.Note.TheVariants.{Usage, TooLong, BadScript, BadText, CannotRead}
+use Rattle.stencil_top.specs.declared.note.Note.TheVariants.{CannotWrite, OutOfMemory}
 
 -- the files, by name, where they are told
 abbrev pub Files : Type 0
@@ -53,7 +54,8 @@ IsCause CannotWrite command files before now = Explains command files (λ end. e
 IsCause OutOfMemory command files before now = ⊤
 
 -- a run ended with this outcome; its note may be cut where the sink for notes has counted a fault
-pub record IsOutcome (end : Outcome) (status : Status) (out out' note note' : Option (List ℕ)) (before now : ℕ) : Type 0 where
+pub record IsOutcome (end : Outcome) (status : Status) (out out' note note' : Option (List ℕ))
+    (before now : ℕ) : Type 0 where
   pub status_is : status ≡ end.status
   pub output : Adds out out' end.output
   pub noted : ¬ Rose before now → Adds note note' end.note
@@ -63,7 +65,8 @@ abbrev pub NeedsNone : Needs → Type 0
 NeedsNone needs = (which : TextName) → needs which ≡ None
 
 -- a run ended with the outcome of its command with the texts in these files
-pub record EndsAsTold (command : Option Command) (held : List ℕ → Option (List ℕ)) (status : Status) (out out' note note' : Option (List ℕ)) (before now : ℕ) : Type 0 where
+pub record EndsAsTold (command : Option Command) (held : List ℕ → Option (List ℕ)) (status : Status)
+    (out out' note note' : Option (List ℕ)) (before now : ℕ) : Type 0 where
   pub end : Outcome
   pub ends : Ends command (texts_in (file_of command) held) end
   pub is : IsOutcome end status out out' note note' before now

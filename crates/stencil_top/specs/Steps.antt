@@ -1,5 +1,6 @@
 -- What the parts of a run do, whether files are told or not: for private functions.
-use Rattle.std.specs.Prelude.{◌≡◌, ◌⊎◌, ℕ, ◌<◌, ◌≤◌, List, length, Option, Some, None, Result, Ok, Err, Vec, IfSome, IsSome, IsSomeAnd, ⊤}
+use Rattle.std.specs.Prelude.{◌≡◌, ◌⊎◌, ℕ, ◌<◌, ◌≤◌, List, length, Option, Some, None, Result, Ok, Err, Vec, IfSome}
+use Rattle.std.specs.Prelude.{IsSome, IsSomeAnd, ⊤}
 use Rattle.std.specs.declared.alloc.Global.{Global}
 use Rattle.part_io.specs.Causes.{Rose}
 use Rattle.stencil_top.specs.Words.{Command}
@@ -12,12 +13,15 @@ use Rattle.stencil_top.specs.declared.note.Note.TheVariants.{Usage, TooLong, Can
 -- what the reading of a file found: its text, where there is one
 abbrev pub FindsText : TextName → ℕ → ℕ → Files → Option (List ℕ) → Result (Vec ℕ Global) Note → Type 0
 FindsText which before now files found (Ok text) = (found ≡ Some text.items) × (length text.items ≤ limit_of which)
-FindsText which before now files found (Err (TooLong w)) = (w ≡ which) × IsSomeAnd found (λ text. limit_of which < length text)
-FindsText which before now files found (Err (CannotRead w)) = (w ≡ which) × (Rose before now ⊎ (IsSome files × (found ≡ None)))
+FindsText which before now files found (Err (TooLong w)) = (w ≡ which) ×
+    IsSomeAnd found (λ text. limit_of which < length text)
+FindsText which before now files found (Err (CannotRead w)) = (w ≡ which) ×
+    (Rose before now ⊎ (IsSome files × (found ≡ None)))
 FindsText which before now files found (Err OutOfMemory) = ⊤
 FindsText which before now files found (Err _) = ⊥
 
-pub record ReadsFile (files : Files) (which : TextName) (name : List ℕ) (before now : ℕ) (result : Result (Vec ℕ Global) Note) : Type 0 where
+pub record ReadsFile (files : Files) (which : TextName) (name : List ℕ)
+    (before now : ℕ) (result : Result (Vec ℕ Global) Note) : Type 0 where
   pub found : Option (List ℕ)
   pub held : IfSome files (λ held. held name ≡ found)
   pub finds : FindsText which before now files found result
@@ -50,7 +54,8 @@ Comes needs files before now wanted (Err OutOfMemory) = ⊤
 Comes needs files before now wanted result = wanted ≡ result
 
 -- with some texts, which where the files are told are those in them
-pub record Finds {A : Type 0} (needs : Needs) (files : Files) (before now : ℕ) (wanted : Texts → Result A Note) (result : Result A Note) : Type 0 where
+pub record Finds {A : Type 0} (needs : Needs) (files : Files) (before now : ℕ)
+    (wanted : Texts → Result A Note) (result : Result A Note) : Type 0 where
   pub texts : Texts
   pub found : AreIn needs files texts
   pub comes : Comes needs files before now (wanted texts) result

@@ -1,7 +1,8 @@
 //! What a run notes where it ends without its output.
 
 ghost use Rattle.std.specs.Prelude.{◌≡◌, ◌<◌, ◌≤◌, ◌+◌, ◌++◌, length, codes, decimal};
-ghost use Rattle.stencil_top.specs.Note.{status_of, name_of, at_row, at_column, at_line, text_message, script_message, message_of, note_text, Notes};
+ghost use Rattle.stencil_top.specs.Note.{status_of, name_of, at_row, at_column, at_line, text_message, script_message};
+ghost use Rattle.stencil_top.specs.Note.{message_of, note_text, Notes};
 
 use crate::status::Status;
 use arrayvec::ArrayString;
@@ -17,7 +18,7 @@ const MAX_LINE: usize = 160;
 pub type Line = ArrayString<MAX_LINE>;
 
 /// A text that a command reads from a file.
-#[derive(Clone, Copy, Debug)]
+#[derive(Clone, Copy)]
 pub enum TextName {
     /// The weights of a stencil.
     Weights,
@@ -28,7 +29,7 @@ pub enum TextName {
 }
 
 /// Why a run ends without its output.
-#[derive(Clone, Copy, Debug)]
+#[derive(Clone, Copy)]
 pub enum Note {
     /// The words are no command line of the program.
     Usage,

@@ -8,4 +8,5 @@ use Rattle.stencil_words.specs.Options.{Text, options_of, texts}
 abbrev pub IsBehindFirst : Text → List (String Global) → Option (Bor (List (String Global))) → Type 0
 IsBehindFirst word after None = is_some (options_of (word ∷ texts after)) ≡ false
 IsBehindFirst word after (Some rest) =
-    (length rest.now ≤ length after) × (is_some (options_of (word ∷ texts after)) ≡ is_some (options_of (texts rest.now)))
+    (length rest.now ≤ length after) × (is_some (options_of (word ∷ texts after)) ≡
+    is_some (options_of (texts rest.now)))

@@ -1,5 +1,7 @@
 -- The options in the words of a command line.
-use Rattle.std.specs.Prelude.{ℕ, ◌==◌, Bool, true, false, ◌&&◌, not, nat_lt, bytes_eq, codes, if◌then◌else◌, List, [], ◌∷◌, length, map, find, Option, Some, None, option_map, option_and_then, String, string_bytes}
+use Rattle.std.specs.Prelude.{ℕ, ◌==◌, Bool, true, false, ◌&&◌, not, nat_lt, bytes_eq, codes, if◌then◌else◌, List, []}
+use Rattle.std.specs.Prelude.{◌∷◌, length, map, find, Option, Some, None, option_map, option_and_then, String}
+use Rattle.std.specs.Prelude.{string_bytes}
 use Rattle.std.specs.declared.alloc.Global.{Global}
 use Rattle.std.specs.List.{after_first, before_first, list_any, position_or_len}
 

@@ -1,5 +1,6 @@
 -- What the words of the command `stencil` ask for.
-use Rattle.std.specs.Prelude.{ℕ, ◌*◌, ◌==◌, Bool, ◌&&◌, nat_le, bytes_eq, codes, if◌then◌else◌, ℤ, pos, unsigned_abs, List, [], ◌∷◌, Option, Some, None, Result, Ok, Err}
+use Rattle.std.specs.Prelude.{ℕ, ◌*◌, ◌==◌, Bool, ◌&&◌, nat_le, bytes_eq, codes, if◌then◌else◌, ℤ, pos, unsigned_abs}
+use Rattle.std.specs.Prelude.{List, [], ◌∷◌, Option, Some, None, Result, Ok, Err}
 use Rattle.std.specs.List.{slice_split}
 use Rattle.stencil_def.specs.declared.limits.TheConstants.{MAX_CELLS, MAX_DIV, MAX_SIDE, MAX_VALUE}
 use Rattle.stencil_def.specs.declared.rule.Around.{Around}

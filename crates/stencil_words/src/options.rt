@@ -2,7 +2,8 @@
 
 ghost use Rattle.std.specs.Prelude.{◌≡◌, is_some, option_copied};
 ghost use Rattle.stencil_words.specs.BehindFirst.{IsBehindFirst};
-ghost use Rattle.stencil_words.specs.Options.{divided, has_equals, is_value, joined, name_part, options_of, paired, texts, undashed};
+ghost use Rattle.stencil_words.specs.Options.{divided, has_equals, is_value, joined, name_part, options_of, paired};
+ghost use Rattle.stencil_words.specs.Options.{texts, undashed};
 
 /// A word behind its first byte, where that is a `-`.
 fn undashed(word: &str) -> Option<&str>

@@ -5,7 +5,9 @@ ghost use Rattle.std.specs.List.{slice_split};
 ghost use Rattle.stencil_words.specs.Limits.{IsRead};
 ghost use Rattle.stencil_words.specs.Command.{given_in};
 ghost use Rattle.stencil_words.specs.Options.{texts};
-ghost use Rattle.stencil_words.specs.Words.{around_of, grid_source, made_source, number_in, or_default, reading_of_values, signed_in, size_in, size_of, source_of, stencil_reading, with_source};
+ghost use Rattle.stencil_words.specs.Words.{around_of, grid_source, made_source, number_in, or_default};
+ghost use Rattle.stencil_words.specs.Words.{reading_of_values, signed_in, size_in, size_of, source_of, stencil_reading};
+ghost use Rattle.stencil_words.specs.Words.{with_source};
 
 use crate::command::matches;
 use crate::options::are_options;
@@ -187,9 +189,9 @@ fn read_matches(alloc: Global, matches: &ArgMatches<'_>) -> Result<Option<Stenci
 /// first `=` divides it, with a value that isn't empty; or two words `--NAME VALUE`, with a value that isn't empty and
 /// doesn't begin with `-`. Numbers are 1 to 19 decimal digits, with a `-` before them only for `edge`.
 ///
-/// `grid` and `weights` name files. `make` is SEED,ROWS,COLS, with no spaces. Exactly one of `grid` and `make` is given,
-/// and `weights` with `grid`. `steps` is 0 to 10,000, and without it 1; `div` is 1 to 1,000,000, and without it 1; `edge`
-/// is -10^12 to 10^12, and without it 0; `around` is `fixed` or `wrap`, and without it `fixed`.
+/// `grid` and `weights` name files. `make` is SEED,ROWS,COLS, with no spaces. Exactly one of `grid` and `make` is
+/// given, and `weights` with `grid`. `steps` is 0 to 10,000, and without it 1; `div` is 1 to 1,000,000, and without it
+/// 1; `edge` is -10^12 to 10^12, and without it 0; `around` is `fixed` or `wrap`, and without it `fixed`.
 pub fn read_words(alloc: Global, words: &[String]) -> Result<Option<StencilWords>, AllocError>
     ensures reading { IfOk result (λ reading. reading ≡ stencil_reading (texts words.now)) }
     ensures limits { IfOk result (λ reading. IfSome reading IsRead) }
