@@ -1,6 +1,6 @@
 //! A sink in memory, of which chosen writes fail.
 
-ghost use Rattle.std.specs.Prelude.{◌≡◌, ◌≤◌, ◌↔◌, ◌++◌, [], Some, length, IfOk, IsOk, OnOk};
+ghost use Rattle.std.specs.Prelude.{◌≡◌, ◌≤◌, ◌↔◌, ◌++◌, ◌-◌, [], Some, length, take, IfOk, IsOk};
 ghost use Rattle.std.specs.List.{Contains};
 ghost use Rattle.part_io.specs.Causes.{HasCause, Next};
 ghost use Rattle.part_io.specs.Sink.{Writes};
@@ -65,6 +65,11 @@ impl MemSink {
         ensures adds { Writes (Some (mem_bytes self.old)) (Some (mem_bytes self.new)) piece.now result }
         ensures done { IsOk result ↔ ((¬ Contains (failing_writes self.old) number) ×
             (length piece.now ≤ mem_room self.old)) }
+        ensures refused { Contains (failing_writes self.old) number →
+            (mem_bytes self.new ≡ mem_bytes self.old) × (mem_room self.new ≡ mem_room self.old) }
+        ensures taken { ¬ Contains (failing_writes self.old) number →
+            (mem_bytes self.new ≡ mem_bytes self.old ++ take (mem_room self.old) piece.now)
+            × (mem_room self.new ≡ mem_room self.old - length piece.now) }
         ensures failing { failing_writes self.new ≡ failing_writes self.old }
         ensures writes { write_count self.new ≡ write_count self.old }
         ensures faults { mem_faults self.new ≡ mem_faults self.old }
@@ -93,6 +98,11 @@ impl Sink for MemSink {
         // What this one does.
         ensures done { IsOk result ↔ ((¬ Contains (failing_writes self.old) (write_count self.old)) ×
             (length piece.now ≤ mem_room self.old)) }
+        ensures refused { Contains (failing_writes self.old) (write_count self.old) →
+            (mem_bytes self.new ≡ mem_bytes self.old) × (mem_room self.new ≡ mem_room self.old) }
+        ensures taken { ¬ Contains (failing_writes self.old) (write_count self.old) →
+            (mem_bytes self.new ≡ mem_bytes self.old ++ take (mem_room self.old) piece.now)
+            × (mem_room self.new ≡ mem_room self.old - length piece.now) }
         ensures failing { failing_writes self.new ≡ failing_writes self.old }
         ensures writes { Next u32.MAX (write_count self.old) (write_count self.new) }
     {

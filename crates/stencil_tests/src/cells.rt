@@ -1,6 +1,5 @@
 //! Sums, quotients and steps: sums that were worked out by hand, and each length of a row against the plain run.
 
-ghost use Rattle.std.specs.Prelude.{◌≤◌};
 ghost use Rattle.stencil_def.specs.Limits.{IsDiv};
 
 use cell_lanes::{Divisor, LaneWeights, new_cells, run_lanes, window_sums};
