@@ -23,6 +23,7 @@ use std::{array, env, hint, process, slice, thread};
 const NAMES: [&str; 9] =
     ["--send-parts", "--recv-parts", "--bytes", "--grain", "--depth", "--rounds", "--markers", "--watchers", "--pause"];
 const SAMPLES: u64 = 1000;
+const SPAN: u64 = 64;
 const TRIES: u32 = 32;
 
 struct Plan {
@@ -440,7 +441,8 @@ struct Times {
 
 impl Times {
     fn new(rounds: u64) -> Times {
-        let shift = (rounds / SAMPLES).max(1).next_power_of_two().trailing_zeros();
+        let every = if rounds < 4 * SPAN { 1 } else { (rounds / SAMPLES).max(SPAN) };
+        let shift = every.next_power_of_two().trailing_zeros();
         let room = || (0..=rounds >> shift).map(|_| AtomicU64::new(0)).collect();
         Times { base: Instant::now(), shift, marked: room(), taken: room() }
     }
@@ -456,6 +458,18 @@ impl Times {
         let mut times: Vec<i64> = stamps.map(|(take, mark)| (take.load(Relaxed) - mark.load(Relaxed)) as i64).collect();
         times.sort();
         times[(times.len() - 1) / 2]
+    }
+
+    // The rounds a second of the quickest twentieth of the spans between two timed rounds. In spans of few rounds it
+    // would tell how fast a receiver takes what has piled up.
+    fn quick(&self) -> Option<f64> {
+        if 1 << self.shift < SPAN {
+            return None;
+        }
+        let spans = self.taken.windows(2).skip(1).map(|ends| ends[1].load(Relaxed) - ends[0].load(Relaxed));
+        let mut spans: Vec<u64> = spans.collect();
+        spans.sort();
+        spans.get(spans.len() / 20).map(|span| (1e9 * (1 << self.shift) as f64) / *span as f64)
     }
 }
 
@@ -541,6 +555,9 @@ fn run<P: Pair>(pair: &P, plan: &Plan) {
     println!("marks {:.0} a second", rate * plan.send_parts as f64);
     println!("bytes {:.0} a second", rate * plan.total() as f64);
     println!("first {} ns after its mark", times.median());
+    if let Some(quick) = times.quick() {
+        println!("quick {quick:.0} rounds a second in the quickest twentieth");
+    }
 }
 
 fn main() {

@@ -20,6 +20,7 @@
 #include <time.h>
 
 #define SAMPLES 1000
+#define SPAN 64
 #define TRIES 32
 #define MOST_THREADS 64
 
@@ -179,16 +180,23 @@ static int later(const void *a, const void *b) {
   return (x > y) - (x < y);
 }
 
-/* Prints the rates, and the median of the times from a mark to its take. */
+/* Prints the rates, the median of the times from a mark to its take, and the rounds a second of the quickest
+   twentieth of the spans between two timed rounds. In spans of few rounds it would tell how fast a receiver takes what
+   has piled up. */
 static void report(int64_t time) {
-  int64_t marked[2 * SAMPLES + 1];
+  int64_t marked[2 * SAMPLES + 1], spans[2 * SAMPLES + 1];
   long count = p.rounds / every;
   MPI_Recv(marked, (int)count + 1, MPI_INT64_T, 0, 9, MPI_COMM_WORLD, MPI_STATUS_IGNORE);
+  for (long i = 1; i < count; i++) spans[i - 1] = stamps[i + 1] - stamps[i];
   for (long i = 1; i <= count; i++) stamps[i] -= marked[i];
+  qsort(spans, (size_t)count - 1, sizeof *spans, later);
   qsort(stamps + 1, (size_t)count, sizeof *stamps, later);
   double rate = (double)p.rounds * 1e9 / (double)time;
   printf("rounds %.0f a second\nmarks %.0f a second\nbytes %.0f a second\nfirst %lld ns after its mark\n", rate,
          rate * (double)p.send_parts, rate * (double)(p.send_parts * p.bytes), (long long)stamps[1 + (count - 1) / 2]);
+  if (every >= SPAN)
+    printf("quick %.0f rounds a second in the quickest twentieth\n",
+           (double)every * 1e9 / (double)spans[(count - 1) / 20]);
 }
 
 static int read_words(int count, char **words) {
@@ -209,7 +217,8 @@ static int read_words(int count, char **words) {
   recv_bytes = (size_t)(total / p.recv_parts);
   timed_part = ((long)recv_bytes - 1) / p.bytes;
   places = p.depth < 3 ? p.depth : 4;
-  for (every = 1; every < p.rounds / SAMPLES;) every *= 2;
+  every = p.rounds < 4 * SPAN ? 1 : SPAN;
+  while (every < p.rounds / SAMPLES) every *= 2;
   return 1;
 }
 
