@@ -1,9 +1,10 @@
 -- A row of slots goes out, or comes home, in one act. The acts go by recursion on the row: the last slot is taken first, so that the first stands at the head, and the slots are given back from the head on.
-use Rattle.std.proofs.Common.{append_assoc, ◌≡◌, ◌≢◌, ◌⊎◌, inl, inr, ⊎_elim, ℕ, zero, suc, ◌+◌, ◌<◌, ◌≤◌, List, [], ◌∷◌, ◌++◌, map, length, set, refl, sym, ap, ◌∙◌, subst, arith, length-set}
+use Rattle.std.proofs.Common.{append_assoc, ◌≡◌, ◌≢◌, ◌⊎◌, inl, inr, ⊎_elim, ℕ, zero, suc, ◌+◌, ◌<◌, ◌≤◌, List, [], ◌∷◌, ◌++◌, map, length, take, drop, set, refl, sym, ap, ◌∙◌, subst, arith, length-set, length-take-le, take-append-drop}
 use mathlib.Core.Option.{Option, none, some, some-injective, some-ne-none}
 use mathlib.Core.Logic.{dite}
 use native.Mathlib.Decide.{ℕ_discrete}
-use lib.ListN.{get_elem?}
+use lib.ListN.{get_elem?, length-map}
+use Rattle.std.proofs.Math.Seq.{drop-nil}
 use Rattle.atomic_table.specs.Table.{Act, keeps, takes, gives, chain, homes_after, carried_after, Valid, put_back, rest}
 use Rattle.atomic_table.proofs.Lists.{set_here, set_else}
 use Rattle.slot_rows.specs.Lists.{row, Every}
@@ -122,6 +123,31 @@ module _ {S B : Type 0} (f : B → S) (P : ℕ → B → Type 0) where
       dite (ℕ_discrete j k)
       (λ e. (y, ap (get_elem? (stocked next (suc k) (map f ys))) e ∙ (stocked_else next (suc k) (map f ys) k (inl (omega arith)) ∙ set_here hs k (some (f y)) (omega arith)), subst (λ (z : ℕ). P z y) (sym e) all.0))
       (λ ne. stocked_here next (suc k) ys j all.1 (omega arith) (omega arith) (omega (arith, length-set hs k (some (f y)))))
+
+  pub stocked_outside : (hs : List (Option S)) (k : ℕ) (ys : List B) (j : ℕ) → (j < k) ⊎ (k + length ys ≤ j) → get_elem? (stocked hs k (map f ys)) j ≡ get_elem? hs j
+  stocked_outside hs k ys j o =
+      let n : length (map f ys) ≡ length ys = length-map ys f in
+      stocked_else hs k (map f ys) j (⊎_elim (λ (l : j < k). inl l) (λ (l : k + length ys ≤ j). inr (omega arith)) o)
+
+module _ {S : Type 0} where
+  -- giving back n slots drops n from the seat's list
+  pub giving_drops : (n : ℕ) (c : List (ℕ × S)) → carried_after c (gives_row n) ≡ drop n c
+  giving_drops zero c = refl
+  giving_drops (suc n) [] = giving_drops n [] ∙ drop-nil n
+  giving_drops (suc n) (x ∷ c) = giving_drops n c
+
+  -- the first n of a row come home, by number
+  pub giving_first : (n k : ℕ) (ys : List S) (c : List (ℕ × S)) → n ≤ length ys → carried_after (row k ys ++ c) (gives_row n) ≡ row (k + n) (drop n ys) ++ c
+  giving_first n k ys c h =
+      let e : length (take n ys) ≡ n = length-take-le n ys h in
+      ap (λ (z : List S). carried_after (row k z ++ c) (gives_row n)) (sym (take-append-drop n ys))
+      ∙ subst (λ (m : ℕ). carried_after (row k (take n ys ++ drop n ys) ++ c) (gives_row m) ≡ row (k + m) (drop n ys) ++ c) e (giving_part k (take n ys) (drop n ys) c)
+
+  pub giving_first_homes : (hs : List (Option S)) (n k : ℕ) (ys : List S) (c : List (ℕ × S)) → n ≤ length ys → homes_after hs (row k ys ++ c) (gives_row n) ≡ stocked hs k (take n ys)
+  giving_first_homes hs n k ys c h =
+      let e : length (take n ys) ≡ n = length-take-le n ys h in
+      ap (λ (z : List S). homes_after hs (row k z ++ c) (gives_row n)) (sym (take-append-drop n ys))
+      ∙ subst (λ (m : ℕ). homes_after hs (row k (take n ys ++ drop n ys) ++ c) (gives_row m) ≡ stocked hs k (take n ys)) e (giving_part_homes hs k (take n ys) (drop n ys) c)
 
 module _ {S : Type 0} where
   -- the i-th value of a row stands at its slot

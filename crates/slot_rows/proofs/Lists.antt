@@ -73,6 +73,12 @@ module _ {X : Type 0} where
       let s : drop p l ≡ R ++ drop (p + n) l = sym (take-append-drop n (drop p l)) ∙ (λ i. e i ++ drop-drop n p l i) in
       ap (λ (z : List X). z ++ take p l) s ∙ append_assoc R (drop (p + n) l) (take p l)
 
+  pub get_or_at : (l : List X) (i : ℕ) (a d : X) → get_elem? l i ≡ some a → get_or l i d ≡ a
+  get_or_at [] i a d e = absurd (some-ne-none a (sym e))
+  get_or_at (x ∷ xs) zero a d e = some-injective x a e
+  get_or_at (x ∷ xs) (suc i) a d e = get_or_at xs i a d e
+
+  -- the same for a value that is what a slice has at i
   pub at_same : (l : List X) (i : ℕ) (a b : X) → get_elem? l i ≡ some a → b ≡ get_or l i b → b ≡ a
   at_same [] i a b e f = absurd (some-ne-none a (sym e))
   at_same (x ∷ xs) zero a b e f = f ∙ some-injective x a e
@@ -98,6 +104,18 @@ module _ {S : Type 0} where
 
   pub same_length : (x z : ℕ × S) (l r : List (ℕ × S)) → l ≡ x ∷ r → length (z ∷ rest l) ≡ length l
   same_length x z l r e = let P : List (ℕ × S) → Type 0 = λ y. length (z ∷ rest y) ≡ length y in subst P (sym e) refl
+
+  -- the exchanged slot leaves the list as long as it was
+  pub swapped_length : (l l2 l3 : List (ℕ × S)) (m : ℕ) (x z : ℕ × S) → l2 ≡ rotated m l → l2 ≡ x ∷ rest l2 → l3 ≡ z ∷ rest l2 → m ≤ length l → length l3 ≡ length l
+  swapped_length l l2 l3 m x z e f g h = ap length g ∙ (same_length x z l2 (rest l2) f ∙ (ap length e ∙ rotated_length m l h))
+
+  -- two readings of one head
+  pub same_head : (x y : ℕ × S) (l : List (ℕ × S)) → l ≡ x ∷ rest l → l ≡ y ∷ rest l → x.1 ≡ y.1
+  same_head x y l e f = ap (head_or x) (sym e ∙ f)
+    where
+      head_or : ℕ × S → List (ℕ × S) → S
+      head_or d [] = d.1
+      head_or d (z ∷ zs) = z.1
 
   pub circle_length : (l l2 l3 : List (ℕ × S)) (p c : ℕ) (x z : ℕ × S) → l2 ≡ rotated c (rotated p l) → l2 ≡ x ∷ rest l2 → l3 ≡ z ∷ rest l2 → p + c ≤ length l → length l3 ≡ length l
   circle_length l l2 l3 p c x z e f g h =
