@@ -89,6 +89,7 @@ module _ {S : Type 0} where
       ap (λ (l : List (ℕ × S)). carried_after (l ++ c) (gives_row (length xs))) (row_append k xs ys)
       ∙ (ap (λ (l : List (ℕ × S)). carried_after l (gives_row (length xs))) (append_assoc (row k xs) (row (k + length xs) ys) c) ∙ giving_carries xs k (row (k + length xs) ys ++ c))
 
+  -- and what is home then
   pub giving_part_homes : (hs : List (Option S)) (k : ℕ) (xs ys : List S) (c : List (ℕ × S)) → homes_after hs (row k (xs ++ ys) ++ c) (gives_row (length xs)) ≡ stocked hs k xs
   giving_part_homes hs k xs ys c =
       ap (λ (l : List (ℕ × S)). homes_after hs (l ++ c) (gives_row (length xs))) (row_append k xs ys)
@@ -124,6 +125,7 @@ module _ {S B : Type 0} (f : B → S) (P : ℕ → B → Type 0) where
       (λ e. (y, ap (get_elem? (stocked next (suc k) (map f ys))) e ∙ (stocked_else next (suc k) (map f ys) k (inl (omega arith)) ∙ set_here hs k (some (f y)) (omega arith)), subst (λ (z : ℕ). P z y) (sym e) all.0))
       (λ ne. stocked_here next (suc k) ys j all.1 (omega arith) (omega arith) (omega (arith, length-set hs k (some (f y)))))
 
+  -- outside it the homes are as they were
   pub stocked_outside : (hs : List (Option S)) (k : ℕ) (ys : List B) (j : ℕ) → (j < k) ⊎ (k + length ys ≤ j) → get_elem? (stocked hs k (map f ys)) j ≡ get_elem? hs j
   stocked_outside hs k ys j o =
       let n : length (map f ys) ≡ length ys = length-map ys f in
@@ -143,6 +145,7 @@ module _ {S : Type 0} where
       ap (λ (z : List S). carried_after (row k z ++ c) (gives_row n)) (sym (take-append-drop n ys))
       ∙ subst (λ (m : ℕ). carried_after (row k (take n ys ++ drop n ys) ++ c) (gives_row m) ≡ row (k + m) (drop n ys) ++ c) e (giving_part k (take n ys) (drop n ys) c)
 
+  -- and what is home then
   pub giving_first_homes : (hs : List (Option S)) (n k : ℕ) (ys : List S) (c : List (ℕ × S)) → n ≤ length ys → homes_after hs (row k ys ++ c) (gives_row n) ≡ stocked hs k (take n ys)
   giving_first_homes hs n k ys c h =
       let e : length (take n ys) ≡ n = length-take-le n ys h in
@@ -168,6 +171,7 @@ module _ {S : Type 0} where
   stand_at hs k (x ∷ xs) (suc i) y h e = ap (get_elem? hs) (let n : k + suc i ≡ suc k + i = omega arith in n) ∙ stand_at hs (suc k) xs i y h.1 e
 
 module _ {B : Type 0} (P : ℕ → B → Type 0) where
+  -- what P says of the i-th value
   pub every_at : (k : ℕ) (ys : List B) (i : ℕ) (y : B) → Every P k ys → get_elem? ys i ≡ some y → P (k + i) y
   every_at k [] i y h e = absurd (some-ne-none y (sym e))
   every_at k (x ∷ xs) zero y h e = subst (λ (z : ℕ × B). P z.0 z.1) (λ j. ((let n : k ≡ k + 0 = omega arith in n) j, some-injective x y e j)) h.0
@@ -177,6 +181,7 @@ module _ {B : Type 0} (P : ℕ → B → Type 0) where
   every_append k [] ys a b = subst (λ (z : ℕ). Every P z ys) (let n : k + 0 ≡ k = omega arith in n) b
   every_append k (x ∷ xs) ys a b = (a.0, every_append (suc k) xs ys a.1 (subst (λ (z : ℕ). Every P z ys) (let n : k + suc (length xs) ≡ suc k + length xs = omega arith in n) b))
 
+  -- of two parts, each is as P asks at its numbers
   pub every_split : (k : ℕ) (xs ys : List B) → Every P k (xs ++ ys) → Every P k xs × Every P (k + length xs) ys
   every_split k [] ys a = (tt, subst (λ (z : ℕ). Every P z ys) (let n : k ≡ k + 0 = omega arith in n) a)
   every_split k (x ∷ xs) ys a =

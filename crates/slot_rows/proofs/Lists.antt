@@ -7,6 +7,7 @@ use Rattle.atomic_table.specs.Table.{turned, rest}
 use Rattle.slot_rows.specs.Lists.{row, rotated, spliced}
 
 module _ {X : Type 0} where
+  -- a list of two parts, turned by the first
   pub around : (A B : List X) (n : ℕ) → length A ≡ n → rotated n (A ++ B) ≡ B ++ A
   around A B n e = λ i. drop_at A B n e i ++ take_at A B n e i
 
@@ -99,9 +100,11 @@ module _ {S : Type 0} where
       let k : suc (length (rest (rotated (p + c) l))) ≡ length l = sym (ap length r) ∙ rotated_length (p + c) l (omega arith) in
       ap (λ (y : List (ℕ × S)). rotated w (rotated (n - c) (z ∷ rest y))) t ∙ (rotated_twice (n - c) w (z ∷ rest (rotated (p + c) l)) (omega arith) ∙ and_back l (p + c) ((n - c) + w) x z e (omega arith))
 
+  -- the slot at p + c comes to the head, by two turns
   pub head_is : (l : List (ℕ × S)) (p c : ℕ) (x : ℕ × S) → get_elem? l (p + c) ≡ some x → p + c ≤ length l → rotated c (rotated p l) ≡ x ∷ rest (rotated c (rotated p l))
   head_is l p c x e h = let t = rotated_twice p c l h in let P : List (ℕ × S) → Type 0 = λ y. y ≡ x ∷ rest y in subst P (sym t) (to_head l (p + c) x e)
 
+  -- another slot at the head leaves the list as long as it was
   pub same_length : (x z : ℕ × S) (l r : List (ℕ × S)) → l ≡ x ∷ r → length (z ∷ rest l) ≡ length l
   same_length x z l r e = let P : List (ℕ × S) → Type 0 = λ y. length (z ∷ rest y) ≡ length y in subst P (sym e) refl
 
@@ -117,6 +120,7 @@ module _ {S : Type 0} where
       head_or d [] = d.1
       head_or d (z ∷ zs) = z.1
 
+  -- the same after two turns
   pub circle_length : (l l2 l3 : List (ℕ × S)) (p c : ℕ) (x z : ℕ × S) → l2 ≡ rotated c (rotated p l) → l2 ≡ x ∷ rest l2 → l3 ≡ z ∷ rest l2 → p + c ≤ length l → length l3 ≡ length l
   circle_length l l2 l3 p c x z e f g h =
       let a = rotated_length p l (omega arith) in

@@ -2,11 +2,13 @@
 use Rattle.std.proofs.Common.{◌≡◌, ℕ, zero, suc, ◌+◌, ◌<◌, ◌≤◌, List, [], ◌∷◌, ◌++◌, map, length, take, drop, set, replicate, Option, Some, None, refl, sym, ap, ◌∙◌, subst, arith, append_assoc, length-append, take-append-drop, length-take-le, take_at, drop_at, drop-drop}
 use mathlib.Core.Option.{some, some-injective, some-ne-none}
 use lib.ListN.{get_elem?, length-map}
+use Rattle.std.proofs.Math.Seq.{set-append_seam}
 use Rattle.std.proofs.lemmas.List.{length-replicate, replicate-append-replicate, map-append}
 use Rattle.slot_rows.specs.Lists.{row, spliced, overlaid}
 use Rattle.slot_rows.proofs.Lists.{at_split, row_length}
 
 module _ {X : Type 0} where
+  -- what stands at n after n others, and the list with another in its place
   pub at_mid : (A D : List X) (n : ℕ) (x : X) → length A ≡ n → get_elem? (A ++ x ∷ D) n ≡ some x
   at_mid [] D zero x e = refl
   at_mid [] D (suc n) x e = absurd (omega arith)
@@ -14,10 +16,7 @@ module _ {X : Type 0} where
   at_mid (a ∷ A) D (suc n) x e = at_mid A D n x (omega arith)
 
   pub set_mid : (A D : List X) (n : ℕ) (x y : X) → length A ≡ n → set (A ++ x ∷ D) n y ≡ A ++ y ∷ D
-  set_mid [] D zero x y e = refl
-  set_mid [] D (suc n) x y e = absurd (omega arith)
-  set_mid (a ∷ A) D zero x y e = absurd (omega arith)
-  set_mid (a ∷ A) D (suc n) x y e = ap (λ (z : List X). a ∷ z) (set_mid A D n x y (omega arith))
+  set_mid A D n x y e = ap (λ (m : ℕ). set (A ++ x ∷ D) m y) (sym e) ∙ set-append_seam A x D y
 
   pub take_next : (l : List X) (c : ℕ) (x : X) → get_elem? l c ≡ some x → take (suc c) l ≡ take c l ++ x ∷ []
   take_next [] c x e = absurd (some-ne-none x (sym e))
@@ -35,22 +34,18 @@ module _ {X : Type 0} where
   at_take (suc n) (x ∷ xs) zero h = refl
   at_take (suc n) (x ∷ xs) (suc c) h = at_take n xs c (omega arith)
 
+  abbrev head_or : X → List X → X
+  head_or d [] = d
+  head_or d (z ∷ zs) = z
+
   -- one was taken from the end of a beginning
   pub popped : (all items : List X) (b : X) → items ++ b ∷ [] ≡ take (length (items ++ b ∷ [])) all → (items ≡ take (length items) all) × (drop (length items) all ≡ b ∷ drop (suc (length items)) all)
   popped [] [] b e = absurd (let f = ap length e in omega arith)
   popped [] (x ∷ items) b e = absurd (let f = ap length e in omega arith)
   popped (a ∷ all) [] b e = (refl, λ i. head_or a (sym e i) ∷ all)
-    where
-      head_or : X → List X → X
-      head_or d [] = d
-      head_or d (z ∷ zs) = z
   popped (a ∷ all) (x ∷ items) b e =
       let r = popped all items b (ap (drop 1) e) in
       ((λ i. head_or a (e i) ∷ r.0 i), r.1)
-    where
-      head_or : X → List X → X
-      head_or d [] = d
-      head_or d (z ∷ zs) = z
 
 module _ {S : Type 0} where
   pub row_snoc : (k : ℕ) (ys : List S) (y : S) → row k (ys ++ y ∷ []) ≡ row k ys ++ (k + length ys, y) ∷ []
@@ -62,6 +57,7 @@ module _ {S : Type 0} where
   row_at k (x ∷ xs) zero y e = λ i. some ((let f : k ≡ k + 0 = omega arith in f) i, some-injective x y e i)
   row_at k (x ∷ xs) (suc c) y e = row_at (suc k) xs c y e ∙ ap (λ (n : ℕ). some (n, y)) (let f : suc k + c ≡ k + suc c = omega arith in f)
 
+  -- at the end of the row that lies over a list, the list is as it was
   pub back_at : (p f : ℕ) (vs : List S) (l : List (ℕ × S)) (x : ℕ × S) → get_elem? l (p + length vs) ≡ some x → get_elem? (overlaid p f vs l) (p + length vs) ≡ some x
   back_at p f vs l x e =
       let m : ℕ = p + length vs in let s = at_split l m x e in let A : List (ℕ × S) = take p l ++ row f vs in
@@ -69,6 +65,7 @@ module _ {S : Type 0} where
       let P : List (ℕ × S) → Type 0 = λ d. get_elem? (take p l ++ (row f vs ++ d)) m ≡ some x in
       subst P (sym s.1) (ap (λ (z : List (ℕ × S)). get_elem? z m) (sym (append_assoc (take p l) (row f vs) (x ∷ drop (suc m) l))) ∙ at_mid A (drop (suc m) l) m x n)
 
+  -- the row that lies over a list grows at its end
   pub back_set : (p f : ℕ) (vs : List S) (l : List (ℕ × S)) (x : ℕ × S) (v : S) → get_elem? l (p + length vs) ≡ some x → set (overlaid p f vs l) (p + length vs) (f + length vs, v) ≡ overlaid p f (vs ++ v ∷ []) l
   back_set p f vs l x v e =
       let m : ℕ = p + length vs in let s = at_split l m x e in let A : List (ℕ × S) = take p l ++ row f vs in let y : ℕ × S = (f + length vs, v) in let D : List (ℕ × S) = drop (suc m) l in
@@ -78,11 +75,13 @@ module _ {S : Type 0} where
       ∙ (ap (λ (z : List (ℕ × S)). set z m y) (sym (append_assoc (take p l) (row f vs) (x ∷ D))) ∙ (set_mid A D m x y n ∙ (append_assoc (take p l) (row f vs) (y ∷ D)
       ∙ ap (λ (z : List (ℕ × S)). take p l ++ z) (sym (append_assoc (row f vs) (y ∷ []) D) ∙ (λ i. sym (row_snoc f vs v) i ++ drop (k i) l)))))
 
+  -- just before the row that lies over a list, the list is as it was
   pub front_at : (p f : ℕ) (vs : List S) (l : List (ℕ × S)) (x : ℕ × S) → get_elem? l p ≡ some x → get_elem? (overlaid (suc p) f vs l) p ≡ some x
   front_at p f vs l x e =
       let R : List (ℕ × S) = row f vs ++ drop (suc p + length vs) l in let s = at_split l p x e in
       ap (λ (z : List (ℕ × S)). get_elem? (z ++ R) p) (take_next l p x e) ∙ (ap (λ (z : List (ℕ × S)). get_elem? z p) (append_assoc (take p l) (x ∷ []) R) ∙ at_mid (take p l) R p x (length-take-le p l (let h = s.0 in omega arith)))
 
+  -- the row that lies over a list grows at its front
   pub front_set : (p f : ℕ) (v : S) (vs : List S) (l : List (ℕ × S)) (x : ℕ × S) → get_elem? l p ≡ some x → set (overlaid (suc p) (suc f) vs l) p (f, v) ≡ overlaid p f (v ∷ vs) l
   front_set p f v vs l x e =
       let R : List (ℕ × S) = row (suc f) vs ++ drop (suc p + length vs) l in let s = at_split l p x e in
@@ -98,10 +97,12 @@ module _ {S : Type 0} where
         (λ i. take_at A (R ++ B) p a i ++ (sym (drop-drop n p (A ++ (R ++ B))) ∙ (ap (drop n) d ∙ drop_at R B n b)) i),
       )
 
+  -- what was put in stands at its place, and without it the list is as it was
   pub spliced_block : (p f n : ℕ) (ys : List S) (l : List (ℕ × S)) → p ≤ length l → length ys ≡ n → (take n (drop p (spliced p f ys l)) ≡ row f ys) × (take p (spliced p f ys l) ++ drop (p + n) (spliced p f ys l) ≡ l)
   spliced_block p f n ys l h e =
       let m = mid_block (take p l) (row f ys) (drop p l) p n (length-take-le p l h) (row_length f ys ∙ e) in (m.0, m.1 ∙ take-append-drop p l)
 
+  -- the same of a row that lies over a list
   pub overlaid_block : (p f n : ℕ) (ys : List S) (l : List (ℕ × S)) → p ≤ length l → length ys ≡ n
       → (take n (drop p (overlaid p f ys l)) ≡ row f ys) × (take p (overlaid p f ys l) ++ drop (p + n) (overlaid p f ys l) ≡ take p l ++ drop (p + n) l)
   overlaid_block p f n ys l h e =
@@ -128,6 +129,7 @@ module _ {B : Type 0} where
   values_row k [] = refl
   values_row k (y ∷ ys) = ap (λ (z : List B). y ∷ z) (values_row (suc k) ys)
 
+  -- rows of the same slots are of the same values
   pub same_row : (k : ℕ) (xs ys : List B) → row k (map Some xs) ≡ row k (map Some ys) → xs ≡ ys
   same_row k xs ys e = sym (values_row k xs) ∙ (ap values e ∙ values_row k ys)
 
@@ -136,7 +138,7 @@ module _ {B : Type 0} where
   some_at k (x ∷ xs) zero h = (x, ap (λ (n : ℕ). some (n, Some x)) (let f : k ≡ k + 0 = omega arith in f))
   some_at k (x ∷ xs) (suc c) h = let r = some_at (suc k) xs c (omega arith) in (r.0, r.1 ∙ ap (λ (n : ℕ). some (n, Some r.0)) (let f : suc k + c ≡ k + suc c = omega arith in f))
 
-  -- what stands in a block of lent values
+  -- what stands in a block of full slots
   pub block_at : (p f n : ℕ) (ys : List B) (l : List (ℕ × Option B)) (c : ℕ) → length ys ≡ n → take n (drop p l) ≡ row f (map Some ys) → c < n → (y : B) × (get_elem? l (p + c) ≡ some (f + c, Some y))
   block_at p f n ys l c e b h =
       let r = some_at f ys c (omega arith) in
@@ -150,6 +152,7 @@ module _ {B : Type 0} where
   none_at k (suc n) zero h = ap (λ (z : ℕ). some (z, None)) (let f : k ≡ k + 0 = omega arith in f)
   none_at k (suc n) (suc c) h = none_at (suc k) n c (omega arith) ∙ ap (λ (z : ℕ). some (z, None)) (let f : suc k + c ≡ k + suc c = omega arith in f)
 
+  -- what stands in a block of empty slots
   pub gap_at : (p f n : ℕ) (l : List (ℕ × Option B)) (c : ℕ) → take n (drop p l) ≡ row f (replicate n None) → c < n → get_elem? l (p + c) ≡ some (f + c, None)
   gap_at p f n l c b h = sym (at_drop p l c) ∙ (sym (at_take n (drop p l) c h) ∙ (ap (λ (z : List (ℕ × Option B)). get_elem? z c) b ∙ none_at f n c h))
 
@@ -192,5 +195,6 @@ module _ {B : Type 0} where
         let g = gap_at p f n l k block h in let a : suc (p + k) ≡ p + m = omega arith in let b : suc (f + k) ≡ f + m = omega arith in
         subst (λ (z : ℕ × ℕ). set (overlaid z.0 z.1 vs l) (p + k) (f + k, v) ≡ overlaid (p + k) (f + k) (v ∷ vs) l) (λ i. (a i, b i)) (front_set (p + k) (f + k) v vs l (f + k, None) g)
 
+  -- what was put in, read by other numbers that are equal
   pub block_taken : (f n m p p' : ℕ) (ys : List B) (l l' : List (ℕ × Option B)) → m ≡ n → p' ≡ p → l' ≡ spliced p f (map Some ys) l → p ≤ length l → length ys ≡ n → take m (drop p' l') ≡ row f (map Some ys)
   block_taken f n m p p' ys l l' c e s h k = (λ i. take (c i) (drop (e i) (s i))) ∙ (spliced_block p f n (map Some ys) l h (length-map ys Some ∙ k)).0
