@@ -1,0 +1,4 @@
+pub mod Lists
+pub mod Acts
+pub mod Overlays
+pub mod Lanes
