@@ -2,8 +2,6 @@
 #![tactic(auto)]
 
 mod order;
-#[cfg(test)]
-mod tests;
 mod word;
 
 pub use order::{join, later};

@@ -7,3 +7,5 @@ pub mod PieceFacts
 pub mod WalkFacts
 pub mod Rows
 pub mod ReaderFacts
+pub mod Overs
+pub mod Walks

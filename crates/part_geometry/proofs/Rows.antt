@@ -1,10 +1,10 @@
 -- The numbers of the cells in three rows: by send partition, by receive partition and by piece. Each row counts up
 -- from 0 by steps of at most 1.
-use Rattle.std.proofs.Common.{◌≡◌, ◌⊎◌, ℕ, zero, suc, add-zero, ◌+◌, ◌-◌, ◌*◌, ◌<◌, ◌≤◌, refl, ap, sym, ◌∙◌, arith, inl, inr}
-use Rattle.std.proofs.lemmas.Bool.{cases_lt, cases_order}
+use Rattle.std.proofs.Common.{◌≡◌, ℕ, zero, suc, add-zero, ◌+◌, ◌-◌, ◌*◌, ◌<◌, ◌≤◌, ap, arith, inl, inr}
+use Rattle.std.proofs.lemmas.Bool.{cases_lt}
 use Rattle.part_geometry.specs.Shape.{Shape, IsShape}
 use Rattle.part_geometry.specs.Cells.{cells, end, send_of, recv_of}
-use Rattle.part_geometry.specs.Pieces.{pieces, first_cell, last_cell, piece_of}
+use Rattle.part_geometry.specs.Pieces.{pieces, last_cell, piece_of}
 use Rattle.part_geometry.proofs.Bounds.{cells-pos}
 use Rattle.part_geometry.proofs.Parts.{send-zero, recv-zero, send-mono, recv-mono, send-last, recv-last, send-below, recv-below, recv_end-le, recv-next-same, recv-next-more}
 use Rattle.part_geometry.proofs.PieceFacts.{send-step, piece-ordered, piece-next, piece-last, piece_of-holds, piece_of-inside, pieces-order}

@@ -3,7 +3,8 @@ use Rattle.std.proofs.Common.{◌≡◌, ◌≢◌, ℕ, zero, suc, add-zero, �
 use Rattle.std.proofs.lemmas.Bool.{le-ltb, lt-ltb, le-leb, lt-leb, cases_Bool, cases_lt, cases_eq, eq-eqb, ne_eqb, cond-true, cond-false}
 use Rattle.std.proofs.lemmas.Nat.{mul-le}
 use Rattle.std.proofs.lemmas.List.{get_or-drop, length-drop, drop-drop}
-use Rattle.part_geometry.specs.declared.walk.Side.{Side}
+use Rattle.part_geometry.specs.declared.TheConstants.{MAX_PARTS, MAX_PART_BYTES, MAX_TOTAL}
+use Rattle.part_geometry.specs.declared.walk.SidePart.{SidePart}
 use Rattle.part_geometry.specs.declared.walk.Position.{Position}
 use Rattle.part_geometry.specs.Shape.{Shape, IsShape, send_total}
 use Rattle.part_geometry.specs.Cells.{cells, start, end, send_of, recv_of}
@@ -77,12 +78,12 @@ end-before g p b inside =
     elim (end-min g b.shape p.place inside) [ inl h ↦ omega arith | inr h ↦ omega arith ]
 
 -- a side behind a place up to its end
-abbrev pub side_after : ℕ → Side → Side
+abbrev pub side_after : ℕ → SidePart → SidePart
 side_after place side = if place == side.end
     then record { part = side.part + 1; end = side.end + side.bytes; bytes = side.bytes }
     else side
 
-side_next : (at next bytes place : ℕ) (side : Side) → IsSide at bytes side
+side_next : (at next bytes place : ℕ) (side : SidePart) → IsSide at bytes side
     → (place ≡ (at + 1) * bytes → next ≡ at + 1) → (place ≢ (at + 1) * bytes → next ≡ at) → IsSide next bytes (side_after place side)
 side_next at next bytes place side is more same =
     elim (cases_eq place side.end) [
@@ -161,16 +162,16 @@ first_before g p v place start send recv piece first first_start first_send = re
 
 -- numbers stay small
 pub record IsSmall (g : Shape) (p : Position) : Type 0 where
-  pub place : p.place < 16777216
-  pub piece : p.piece < 16777216
+  pub place : p.place < MAX_TOTAL
+  pub piece : p.piece < MAX_TOTAL
   pub start : p.start < end g p.place
-  pub end : end g p.place ≤ 16777216
-  pub send : p.send.part < 1024
-  pub recv : p.recv.part < 1024
-  pub send_end : p.send.end ≤ 16777216
-  pub recv_end : p.recv.end ≤ 16777216
-  pub send_bytes : p.send.bytes ≤ 1048576
-  pub recv_bytes : p.recv.bytes ≤ 1048576
+  pub end : end g p.place ≤ MAX_TOTAL
+  pub send : p.send.part < MAX_PARTS
+  pub recv : p.recv.part < MAX_PARTS
+  pub send_end : p.send.end ≤ MAX_TOTAL
+  pub recv_end : p.recv.end ≤ MAX_TOTAL
+  pub send_bytes : p.send.bytes ≤ MAX_PART_BYTES
+  pub recv_bytes : p.recv.bytes ≤ MAX_PART_BYTES
   pub first_start : p.first_start ≤ p.start
   pub first_send : p.first_send ≤ p.send.part
 
@@ -219,7 +220,7 @@ total-closes g v c inside =
       | inr other ↦ ne_eqb _ _ (let h = start-below g v (c + 1) (omega arith) in λ z. absurd (omega arith)) ∙ sym (ne_eqb _ _ other)
     ]
 
-pub first_side : (bytes n : ℕ) (side : Side) → side ≡ record { part = 0; end = n; bytes = n } → n ≡ bytes → IsSide 0 bytes side
+pub first_side : (bytes n : ℕ) (side : SidePart) → side ≡ record { part = 0; end = n; bytes = n } → n ≡ bytes → IsSide 0 bytes side
 first_side bytes n side is same = rw (is, same) (record { stands = refl; size = refl; ends = omega arith })
 
 -- what `advance` answers behind the last cell, and before it

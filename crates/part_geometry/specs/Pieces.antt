@@ -1,7 +1,7 @@
 -- The pieces of a message: the runs of cells that go out together.
-use Rattle.std.specs.Prelude.{◌≡◌, ℕ, zero, suc, ◌+◌, ◌-◌, ◌^◌, ◌<◌, ◌≤◌, Bool, true, false, ◌||◌, ◌==◌, nat_lt, nat_le, if◌then◌else◌, List, [], ◌∷◌, length, count_by, slice_index_or}
+use Rattle.std.specs.Prelude.{◌≡◌, ℕ, zero, suc, ◌+◌, ◌-◌, ◌^◌, ◌<◌, ◌≤◌, Bool, true, false, ◌&&◌, ◌||◌, ◌==◌, nat_lt, nat_le, if◌then◌else◌, List, [], ◌∷◌, length, count_by, slice_index_or, IsTrue, ◌↔◌}
 use Rattle.std.specs.List.{range_with_len}
-use Rattle.part_geometry.specs.Shape.{Shape}
+use Rattle.part_geometry.specs.Shape.{Shape, IsShape}
 use Rattle.part_geometry.specs.Cells.{cells, start, end, send_of, recv_of}
 
 -- a run of cells: the first and the last
@@ -75,6 +75,14 @@ Touches g i p = (c : ℕ) × (first_cell g i ≤ c) × (c ≤ last_cell g i) × 
 
 abbrev pub TouchesRecv : Shape → ℕ → ℕ → Type 0
 TouchesRecv g i q = (c : ℕ) × (first_cell g i ≤ c) × (c ≤ last_cell g i) × (recv_of g c ≡ q)
+
+-- whether a piece and a receive partition touch: the partitions of its first and its last cell are on either side
+abbrev pub is_over : Shape → ℕ → ℕ → Bool
+is_over g q i = nat_le (recv_of g (first_cell g i)) q && nat_le q (recv_of g (last_cell g i))
+
+-- that a piece is over a receive partition exactly where they touch
+abbrev pub AreOver : Type 0
+AreOver = (g : Shape) (q i : ℕ) → IsShape g → i < pieces g → IsTrue (is_over g q i) ↔ TouchesRecv g i q
 
 -- the least and the greatest send partition that a piece touches
 unfoldable pub first_part : Shape → ℕ → ℕ

@@ -1,5 +1,6 @@
 -- The six numbers of a partitioned pair (MPI 4.0, 4.2), and the limits that they keep.
 use Rattle.std.specs.Prelude.{◌≡◌, ℕ, ◌*◌, ◌≤◌}
+use Rattle.part_geometry.specs.declared.TheConstants.{MAX_PARTS, MAX_PART_BYTES, MAX_TOTAL, MAX_GRAIN, MAX_DEPTH}
 
 -- how many partitions each side has and how many bytes one of its partitions has, the least bytes of a
 -- piece, and how many rounds may be in flight
@@ -24,11 +25,11 @@ IsWithin low high n = (low ≤ n) × (n ≤ high)
 
 -- the limits of a pair: both sides cut one message
 pub record IsShape (g : Shape) : Type 0 where
-  pub send_parts : IsWithin 1 1024 g.send_parts
-  pub recv_parts : IsWithin 1 1024 g.recv_parts
-  pub send_bytes : IsWithin 1 1048576 g.send_bytes
-  pub recv_bytes : IsWithin 1 1048576 g.recv_bytes
-  pub length : send_total g ≤ 16777216
+  pub send_parts : IsWithin 1 MAX_PARTS g.send_parts
+  pub recv_parts : IsWithin 1 MAX_PARTS g.recv_parts
+  pub send_bytes : IsWithin 1 MAX_PART_BYTES g.send_bytes
+  pub recv_bytes : IsWithin 1 MAX_PART_BYTES g.recv_bytes
+  pub length : send_total g ≤ MAX_TOTAL
   pub same : send_total g ≡ recv_total g
-  pub grain : IsWithin 1 16777216 g.grain
-  pub depth : IsWithin 1 4 g.depth
+  pub grain : IsWithin 1 MAX_GRAIN g.grain
+  pub depth : IsWithin 1 MAX_DEPTH g.depth

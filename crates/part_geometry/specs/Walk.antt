@@ -1,7 +1,7 @@
 -- A walk over the cells of a geometry, from the first to the last.
 use Rattle.std.specs.Prelude.{◌≡◌, ℕ, ◌+◌, ◌-◌, ◌*◌, ◌≤◌, nat_lt, if◌then◌else◌, Option, Some, None, drop}
 use Rattle.part_geometry.specs.declared.walk.Cell.{Cell}
-use Rattle.part_geometry.specs.declared.walk.Side.{Side}
+use Rattle.part_geometry.specs.declared.walk.SidePart.{SidePart}
 use Rattle.part_geometry.specs.declared.walk.Position.{Position}
 use Rattle.part_geometry.specs.Shape.{Shape, IsShape}
 use Rattle.part_geometry.specs.Cells.{cells, start, end, send_of, recv_of}
@@ -31,7 +31,7 @@ abbrev pub passed : Walked → Walked
 passed w = record { shape = w.shape; place = if nat_lt w.place (cells w.shape) then w.place + 1 else w.place }
 
 -- a side stands at partition `part` of `bytes` bytes
-pub record IsSide (part bytes : ℕ) (side : Side) : Type 0 where
+pub record IsSide (part bytes : ℕ) (side : SidePart) : Type 0 where
   pub stands : side.part ≡ part
   pub size : side.bytes ≡ bytes
   pub ends : side.end ≡ (part + 1) * bytes

@@ -2,6 +2,15 @@
 
 use thiserror::Error;
 
+/// A side of a pair (MPI 4.0, 4.2.1).
+#[derive(Clone, Copy, Debug, PartialEq, Eq)]
+pub enum Side {
+    /// The sender (`MPI_Psend_init`).
+    SendSide,
+    /// The receiver (`MPI_Precv_init`).
+    RecvSide,
+}
+
 /// What an accepted mark did (`MPI_Pready`, MPI 4.0, 4.2.2).
 #[derive(Clone, Copy, Debug, PartialEq, Eq)]
 pub struct Marked {

@@ -1,23 +1,13 @@
 //! The six numbers of a pair.
 
 ghost use Rattle.std.specs.Prelude.{◌≡◌, ◌*◌, ◌↔◌, ◌≤◌, IfOk, IsTrue};
+ghost use Rattle.part_geometry.specs.declared.TheConstants.{MAX_PARTS, MAX_PART_BYTES, MAX_GRAIN, MAX_DEPTH};
 ghost use Rattle.part_geometry.specs.Shape.{IsShape, IsWithin, send_total};
 ghost use Rattle.part_geometry.specs.Making.{both_within, geometry_of, parts_answer};
 
+use crate::{MAX_DEPTH, MAX_GRAIN, MAX_PART_BYTES, MAX_PARTS, MAX_TOTAL};
 use std::marker::Model;
 use thiserror::Error;
-
-/// The most partitions of a side.
-pub const MAX_PARTS: u32 = 1024;
-
-/// The most bytes of a partition.
-pub const MAX_PART_BYTES: u32 = 1_048_576;
-
-/// The most bytes of a message, and the greatest grain.
-pub const MAX_TOTAL: u32 = 16_777_216;
-
-/// The most rounds in flight.
-pub const MAX_DEPTH: u32 = 4;
 
 /// Why six numbers make no geometry. They are tried in this order.
 #[derive(Clone, Copy, Debug, PartialEq, Eq, Error)]
@@ -146,7 +136,7 @@ impl Geometry {
                 recv_total,
             });
         }
-        if !both_in(1, MAX_TOTAL, grain, grain) {
+        if !both_in(1, MAX_GRAIN, grain, grain) {
             return Err(GeometryFault::BadGrain);
         }
         if !both_in(1, MAX_DEPTH, depth, depth) {
@@ -165,7 +155,7 @@ impl Geometry {
     /// How many partitions the sender has, 1 to 1,024.
     pub fn send_parts(&self) -> u32
         ensures value { result ≡ self.now.send_parts }
-        ensures limits { IsWithin 1 1024 result }
+        ensures limits { IsWithin 1 MAX_PARTS result }
     {
         self.send_parts
     }
@@ -173,7 +163,7 @@ impl Geometry {
     /// How many bytes a send partition has, 1 to 1,048,576.
     pub fn send_bytes(&self) -> u32
         ensures value { result ≡ self.now.send_bytes }
-        ensures limits { IsWithin 1 1048576 result }
+        ensures limits { IsWithin 1 MAX_PART_BYTES result }
     {
         self.send_bytes
     }
@@ -181,7 +171,7 @@ impl Geometry {
     /// How many partitions the receiver has, 1 to 1,024.
     pub fn recv_parts(&self) -> u32
         ensures value { result ≡ self.now.recv_parts }
-        ensures limits { IsWithin 1 1024 result }
+        ensures limits { IsWithin 1 MAX_PARTS result }
     {
         self.recv_parts
     }
@@ -189,7 +179,7 @@ impl Geometry {
     /// How many bytes a receive partition has, 1 to 1,048,576.
     pub fn recv_bytes(&self) -> u32
         ensures value { result ≡ self.now.recv_bytes }
-        ensures limits { IsWithin 1 1048576 result }
+        ensures limits { IsWithin 1 MAX_PART_BYTES result }
     {
         self.recv_bytes
     }
@@ -197,7 +187,7 @@ impl Geometry {
     /// The least bytes of a piece, 1 to 16,777,216.
     pub fn grain(&self) -> u32
         ensures value { result ≡ self.now.grain }
-        ensures limits { IsWithin 1 16777216 result }
+        ensures limits { IsWithin 1 MAX_GRAIN result }
     {
         self.grain
     }
@@ -205,7 +195,7 @@ impl Geometry {
     /// How many rounds may be in flight, 1 to 4.
     pub fn depth(&self) -> u32
         ensures value { result ≡ self.now.depth }
-        ensures limits { IsWithin 1 4 result }
+        ensures limits { IsWithin 1 MAX_DEPTH result }
     {
         self.depth
     }

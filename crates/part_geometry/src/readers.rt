@@ -18,7 +18,7 @@ impl Geometry {
         CellWalk::new(*self)
     }
 
-    /// How many cells the message has, 1 to 2,047: one fewer than it has bounds. A bound is a place where a partition
+    /// How many cells the message has, 1 to 2,046: one fewer than it has bounds. A bound is a place where a partition
     /// of either side (MPI 4.0, 4.2) starts, or the end of the message. Walks over all cells, as the others here do.
     pub fn cells(&self) -> u32
         ensures value { result ≡ cells self.now }

@@ -1,10 +1,14 @@
 //! A walk over the cells of a message, which merges the two rows of bounds.
 
-ghost use Rattle.std.specs.Prelude.{◌≡◌, ◌+◌, ◌*◌, ◌<◌, ◌≤◌, min, if◌then◌else◌, ◌==◌};
+ghost use Rattle.std.specs.Prelude.{◌≡◌, ◌+◌, ◌*◌, ◌<◌, ◌≤◌, min, if◌then◌else◌, ◌==◌, IfOk, map};
+ghost use Rattle.std.specs.List.{range_with_len};
+ghost use Rattle.part_geometry.specs.declared.TheConstants.{MAX_PARTS, MAX_PART_BYTES, MAX_TOTAL};
 ghost use Rattle.part_geometry.specs.Cells.{cells, end};
 ghost use Rattle.part_geometry.specs.Pieces.{closes};
+ghost use Rattle.part_geometry.specs.Walk.{cell_at};
 
 use crate::Geometry;
+use std::alloc::{AllocError, Global};
 use std::marker::Model;
 
 /// A cell: the bytes of a message between two neighbouring bounds.
@@ -24,17 +28,17 @@ pub struct Cell {
 
 /// One side's partition at a place of the message.
 #[derive(Clone, Copy)]
-struct Side {
+struct SidePart {
     part: u32,
     end: u32,
     bytes: u32,
 }
 
-impl Side {
-    fn first(bytes: u32) -> Side
+impl SidePart {
+    fn first(bytes: u32) -> SidePart
         ensures { result ≡ record { part = 0; end = bytes; bytes = bytes } }
     {
-        Side {
+        SidePart {
             part: 0,
             end: bytes,
             bytes,
@@ -42,16 +46,16 @@ impl Side {
     }
 
     /// The side's partition behind a place up to its end.
-    fn passed(self, place: u32) -> Side
-        requires part { self.part < 1024 }
-        requires end { self.end ≤ 16777216 }
-        requires bytes { self.bytes ≤ 1048576 }
+    fn passed(self, place: u32) -> SidePart
+        requires part { self.part < MAX_PARTS }
+        requires end { self.end ≤ MAX_TOTAL }
+        requires bytes { self.bytes ≤ MAX_PART_BYTES }
         ensures { result ≡ (if place == self.end
             then record { part = self.part + 1; end = self.end + self.bytes; bytes = self.bytes }
             else self) }
     {
         if place == self.end {
-            Side {
+            SidePart {
                 part: self.part + 1,
                 end: self.end + self.bytes,
                 bytes: self.bytes,
@@ -67,8 +71,8 @@ impl Side {
 struct Position {
     place: u32,
     start: u32,
-    send: Side,
-    recv: Side,
+    send: SidePart,
+    recv: SidePart,
     piece: u32,
     first: u32,
     first_start: u32,
@@ -76,7 +80,7 @@ struct Position {
 }
 
 impl Position {
-    ghost use Rattle.part_geometry.specs.Walk.{IsBefore, cell_at};
+    ghost use Rattle.part_geometry.specs.Walk.{IsBefore};
 
     fn first(geometry: Geometry) -> Position
         ensures before { IsBefore geometry result }
@@ -86,8 +90,8 @@ impl Position {
         Position {
             place: 0,
             start: 0,
-            send: Side::first(geometry.send_bytes()),
-            recv: Side::first(geometry.recv_bytes()),
+            send: SidePart::first(geometry.send_bytes()),
+            recv: SidePart::first(geometry.recv_bytes()),
             piece: 0,
             first: 0,
             first_start: 0,
@@ -146,7 +150,7 @@ impl Position {
 
     /// The same position, with the open run closed and one opened here.
     fn opened(self) -> Position
-        requires { self.piece < 16777216 }
+        requires { self.piece < MAX_TOTAL }
         ensures { result ≡ record self {
           piece = self.piece + 1;
           first = self.place;
@@ -207,4 +211,16 @@ impl CellWalk {
         self.position = self.position.after(self.geometry);
         Some(cell)
     }
+}
+
+/// The cells of a geometry, in order; or want of memory. Takes a few steps a cell.
+pub fn all_cells(alloc: Global, geometry: Geometry) -> Result<Vec<Cell>, AllocError>
+    ensures cells { IfOk result (λ all. all.items ≡ map (cell_at geometry) (range_with_len 0 (cells geometry))) }
+{
+    let mut all = Vec::new(alloc);
+    let mut walk = CellWalk::new(geometry);
+    while let Some(cell) = walk.advance() {
+        all.push(cell)?;
+    }
+    Ok(all)
 }
