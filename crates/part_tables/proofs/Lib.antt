@@ -4,3 +4,4 @@ pub mod ShareFacts
 pub mod ByteFacts
 pub mod RowFacts
 pub mod Facts
+pub mod TableFacts

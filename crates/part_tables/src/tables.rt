@@ -1,6 +1,7 @@
 //! The tables of a geometry.
 
-ghost use Rattle.std.specs.Prelude.{◌≡◌, ◌+◌, ◌%◌, ◌<◌, ◌≤◌, IfOk};
+ghost use Rattle.std.specs.Prelude.{◌≡◌, ◌+◌, ◌*◌, ◌%◌, ◌<◌, ◌≤◌, IfOk};
+ghost use Rattle.part_geometry.specs.declared.TheConstants.{MAX_PARTS};
 ghost use Rattle.part_geometry.specs.Shape.{IsShape};
 ghost use Rattle.part_geometry.specs.Cells.{cells};
 ghost use Rattle.part_geometry.specs.Pieces.{pieces, first_part, need};
@@ -8,7 +9,7 @@ ghost use Rattle.part_geometry.specs.Walk.{cell_at};
 ghost use Rattle.part_tables.specs.Parts.{cells_before, first_sent, first_received, first_shared, after_shared};
 ghost use Rattle.part_tables.specs.Tables.{IsTable, part_at, part_count, run_at};
 
-use part_geometry::{Cell, CellWalk, Geometry};
+use part_geometry::{Cell, Geometry, all_cells};
 use std::alloc::{AllocError, Global};
 use std::marker::Model;
 
@@ -67,18 +68,6 @@ impl PieceRun {
             need: u32::MAX >> (32 - count),
         }
     }
-}
-
-/// The cells in order.
-fn all_cells(alloc: Global, geometry: Geometry) -> Result<Vec<Cell>, AllocError>
-    ensures { IfOk result (λ all. IsTable (cell_at geometry) (cells geometry) all.items) }
-{
-    let mut all = Vec::new(alloc);
-    let mut walk = CellWalk::new(geometry);
-    while let Some(cell) = walk.advance() {
-        all.push(cell)?;
-    }
-    Ok(all)
 }
 
 /// The first cell of each part of a row, and behind them the number of cells.
@@ -144,8 +133,7 @@ impl Model for Tables {
 }
 
 impl Tables {
-    /// The tables of a geometry, in time and memory that grow with the number of its cells, of which there are at
-    /// most 2,047.
+    /// The tables of a geometry, in time and memory that grow with the number of its cells.
     pub fn new(alloc: Global, geometry: Geometry) -> Result<Tables, AllocError>
         ensures { IfOk result (λ tables. tables ≡ geometry) }
     {
@@ -173,19 +161,19 @@ impl Tables {
         self.geometry
     }
 
-    /// How many cells the message has, 1 to 2,047.
+    /// How many cells the message has: at least 1, and fewer than both sides together have partitions.
     pub fn cells(&self) -> usize
         ensures value { result ≡ cells self.now }
-        ensures limits { (1 ≤ result) × (result ≤ 2047) }
+        ensures limits { (1 ≤ result) × (result < 2 * MAX_PARTS) }
     {
         let _geometry = self.geometry();
         self.cells.len()
     }
 
-    /// How many pieces the message goes out in, 1 to 2,047.
+    /// How many pieces the message goes out in: at least 1, and at most as many as it has cells.
     pub fn pieces(&self) -> usize
         ensures value { result ≡ pieces self.now }
-        ensures limits { (1 ≤ result) × (result ≤ 2047) }
+        ensures limits { (1 ≤ result) × (result < 2 * MAX_PARTS) }
     {
         let _geometry = self.geometry();
         self.runs.len()
