@@ -9,7 +9,8 @@ use Rattle.part_geometry.specs.Shape.{Shape, IsShape}
 use Rattle.part_geometry.specs.Cells.{cells, send_of}
 use Rattle.part_geometry.specs.Pieces.{pieces, piece_of, first_cell, last_cell, first_part, last_part, need_count}
 use Rattle.part_geometry.specs.Walk.{cell_at}
-use Rattle.part_geometry.proofs.PieceFacts.{piece-ordered, need_count-pos, need_count-le}
+use Rattle.part_geometry.proofs.PieceFacts.{piece-ordered, piece_of-holds, pieces-le, need_count-pos, need_count-le}
+use Rattle.part_geometry.proofs.ReaderFacts.{cells-few}
 use Rattle.part_geometry.proofs.Parts.{send-below}
 use Rattle.part_geometry.proofs.Rows.{IsRow, row-le, send-row, recv-row, piece-row}
 use Rattle.part_tables.specs.declared.tables.Row.{Row}
@@ -166,3 +167,26 @@ run_of g v all firsts i first after d e is f inside first_read after_read =
       ordered = omega arith;
       small = omega arith;
     }
+
+-- how many cells and pieces there are
+pub record IsCounted (g : Shape) : Type 0 where
+  pub some_cells : 1 ≤ cells g
+  pub some_pieces : 1 ≤ pieces g
+  pub order : pieces g ≤ cells g
+  pub few : cells g < 2048
+
+pub counted : (g : Shape) → IsShape g → IsCounted g
+counted g v =
+    let h = cells-few g v in
+    let some = h.0 in let few = h.1 in
+    let s = v.send_parts.1 in let r = v.recv_parts.1 in
+    let piece = (piece_of-holds g 0 (omega arith)).inside in
+    record { some_cells = some; some_pieces = omega arith; order = pieces-le g; few = omega arith }
+
+-- two neighbouring places of a table, read
+pub read_two : (F : Shape → ℕ → ℕ) (g g' : Shape) (n p x y : ℕ) (firsts : List ℕ) → IsTable (F g) n firsts → g ≡ g' → p + 1 < n
+    → x ≡ get_or firsts p x → y ≡ get_or firsts (p + 1) y → (x ≡ F g' p) × (y ≡ F g' (p + 1))
+read_two F g g' n p x y firsts is same inside first second = (
+  first ∙ table_at (F g) n p x firsts is (omega arith) ∙ ap (λ s. F s p) same,
+  second ∙ table_at (F g) n (p + 1) y firsts is inside ∙ ap (λ s. F s (p + 1)) same,
+)
