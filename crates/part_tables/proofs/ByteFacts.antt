@@ -9,7 +9,7 @@ use Rattle.part_geometry.specs.Cells.{cells, start, end, send_of}
 use Rattle.part_geometry.proofs.Bounds.{start-rises, end-start}
 use Rattle.part_geometry.proofs.Parts.{send_end-le}
 use Rattle.part_geometry.proofs.ReaderFacts.{send-starts}
-use Rattle.part_tables.specs.Bytes.{bytes_between, byte_at, cell_bytes, part_bytes, cut}
+use Rattle.part_tables.specs.Bytes.{bytes_between, byte_at, cell_bytes, cut}
 
 -- two rows of places, one behind the other
 map-range-append : (f : ℕ → ℕ) (m n a : ℕ) → map f (range_with_len a m) ++ map f (range_with_len (a + m) n) ≡ map f (range_with_len a (m + n))

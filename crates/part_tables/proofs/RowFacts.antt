@@ -1,6 +1,6 @@
 -- The bytes of cells in a row, put together: those of a receive partition's cells are the partition's, and cuts of a
 -- send partition's bytes are those bytes. `Each k xs` says of a list what its items have of the cells k, k + 1 and so on.
-use Rattle.std.proofs.Common.{◌≡◌, ℕ, suc, add-zero, ◌+◌, ◌-◌, ◌*◌, ◌<◌, ◌≤◌, List, [], ◌∷◌, ◌++◌, length, map, refl, ap, sym, ◌∙◌, arith}
+use Rattle.std.proofs.Common.{◌≡◌, ℕ, suc, add-zero, ◌+◌, ◌-◌, ◌*◌, ◌<◌, ◌≤◌, List, [], ◌∷◌, ◌++◌, length, refl, ap, sym, ◌∙◌, arith}
 use Rattle.std.specs.List.{flat_map}
 use Rattle.part_geometry.specs.Shape.{Shape, IsShape}
 use Rattle.part_geometry.specs.Cells.{cells, start, end, send_of, recv_of}
@@ -9,7 +9,7 @@ use Rattle.part_geometry.proofs.Parts.{start-le}
 use Rattle.part_geometry.proofs.Rows.{send-row, recv-row}
 use Rattle.part_tables.specs.Parts.{first_sent, first_received}
 use Rattle.part_tables.specs.Bytes.{bytes_between, byte_at, cell_bytes, part_bytes, cut}
-use Rattle.part_tables.proofs.CountFacts.{in_part, before-le, before-mono}
+use Rattle.part_tables.proofs.CountFacts.{before-le, before-mono}
 use Rattle.part_tables.proofs.PartFacts.{send_side, recv_side, start-first}
 use Rattle.part_tables.proofs.ByteFacts.{bytes_between-joined, bytes_between-nothing, cut-is_lem, sent_bytes_lem}
 

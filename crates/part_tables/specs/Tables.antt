@@ -9,7 +9,7 @@ use Rattle.part_geometry.specs.Walk.{cell_at}
 use Rattle.part_tables.specs.declared.tables.Row.{Row}
 use Rattle.part_tables.specs.declared.tables.Row.TheVariants.{Send, Recv, Piece}
 use Rattle.part_tables.specs.declared.tables.PieceRun.{PieceRun}
-use Rattle.part_tables.specs.Parts.{first_sent, first_received}
+use Rattle.part_tables.specs.Parts.{cells_before}
 
 -- the part of a cell in a row: its send partition, its receive partition or its piece
 abbrev pub part_in : Row → Cell → ℕ
@@ -37,10 +37,20 @@ run_at g i = record { first = first_cell g i; after = last_cell g i + 1; first_p
 abbrev pub IsTable : {X : Type 0} → (ℕ → X) → ℕ → List X → Type 0
 IsTable f n xs = xs ≡ map f (range_with_len 0 n)
 
+-- the cells in order; the first cell of each part of a row, and behind them the number of cells; the pieces in order
+abbrev pub AreCells : Shape → List Cell → Type 0
+AreCells g all = IsTable (cell_at g) (cells g) all
+
+abbrev pub AreFirsts : Row → Shape → List ℕ → Type 0
+AreFirsts row g firsts = IsTable (cells_before (part_at row g) (cells g)) (part_count row g + 1) firsts
+
+abbrev pub AreRuns : Shape → List PieceRun → Type 0
+AreRuns g runs = IsTable (run_at g) (pieces g) runs
+
 -- the tables of a geometry
 pub record AreTables (g : Shape) (all : List Cell) (sent received : List ℕ) (runs : List PieceRun) : Type 0 where
   pub shape : IsShape g
-  pub all_cells : IsTable (cell_at g) (cells g) all
-  pub sent_firsts : IsTable (first_sent g) (g.send_parts + 1) sent
-  pub received_firsts : IsTable (first_received g) (g.recv_parts + 1) received
-  pub all_runs : IsTable (run_at g) (pieces g) runs
+  pub all_cells : AreCells g all
+  pub sent_firsts : AreFirsts Send g sent
+  pub received_firsts : AreFirsts Recv g received
+  pub all_runs : AreRuns g runs

@@ -6,8 +6,8 @@ ghost use Rattle.part_geometry.specs.Shape.{IsShape};
 ghost use Rattle.part_geometry.specs.Cells.{cells};
 ghost use Rattle.part_geometry.specs.Pieces.{pieces, first_part, need};
 ghost use Rattle.part_geometry.specs.Walk.{cell_at};
-ghost use Rattle.part_tables.specs.Parts.{cells_before, first_sent, first_received, first_shared, after_shared};
-ghost use Rattle.part_tables.specs.Tables.{IsTable, part_at, part_count, run_at};
+ghost use Rattle.part_tables.specs.Parts.{first_sent, first_received, first_shared, after_shared};
+ghost use Rattle.part_tables.specs.Tables.{AreCells, AreFirsts, AreRuns, run_at};
 
 use part_geometry::{Cell, Geometry, all_cells};
 use std::alloc::{AllocError, Global};
@@ -51,8 +51,8 @@ struct PieceRun {
 impl PieceRun {
     /// Piece `i`, where `firsts` has the first cell of each piece and then the number of cells.
     fn of(geometry: Geometry, all: &[Cell], firsts: &[usize], i: usize) -> PieceRun
-        requires all_cells { IsTable (cell_at geometry) (cells geometry) all.now }
-        requires piece_firsts { IsTable (cells_before (part_at Row.Piece geometry) (cells geometry)) (pieces geometry + 1) firsts.now }
+        requires all_cells { AreCells geometry all.now }
+        requires piece_firsts { AreFirsts Row.Piece geometry firsts.now }
         requires piece { i < pieces geometry }
         ensures { result ≡ run_at geometry i }
     {
@@ -77,8 +77,8 @@ fn first_cells(
     row: Row,
     all: &[Cell],
 ) -> Result<Vec<usize>, AllocError>
-    requires { IsTable (cell_at geometry) (cells geometry) all.now }
-    ensures { IfOk result (λ firsts. IsTable (cells_before (part_at row geometry) (cells geometry)) (part_count row geometry + 1) firsts.items) }
+    requires { AreCells geometry all.now }
+    ensures { IfOk result (λ firsts. AreFirsts row geometry firsts.items) }
 {
     let _total = geometry.total();
     let mut firsts = Vec::new(alloc);
@@ -98,9 +98,9 @@ fn piece_runs(
     all: &[Cell],
     firsts: &[usize],
 ) -> Result<Vec<PieceRun>, AllocError>
-    requires all_cells { IsTable (cell_at geometry) (cells geometry) all.now }
-    requires piece_firsts { IsTable (cells_before (part_at Row.Piece geometry) (cells geometry)) (pieces geometry + 1) firsts.now }
-    ensures { IfOk result (λ runs. IsTable (run_at geometry) (pieces geometry) runs.items) }
+    requires all_cells { AreCells geometry all.now }
+    requires piece_firsts { AreFirsts Row.Piece geometry firsts.now }
+    ensures { IfOk result (λ runs. AreRuns geometry runs.items) }
 {
     let _total = geometry.total();
     let mut runs = Vec::new(alloc);
@@ -157,7 +157,6 @@ impl Tables {
         ensures value { result ≡ self.now }
         ensures limits { IsShape self.now }
     {
-        let _total = self.geometry.total();
         self.geometry
     }
 
@@ -166,7 +165,6 @@ impl Tables {
         ensures value { result ≡ cells self.now }
         ensures limits { (1 ≤ result) × (result < 2 * MAX_PARTS) }
     {
-        let _geometry = self.geometry();
         self.cells.len()
     }
 
@@ -175,7 +173,6 @@ impl Tables {
         ensures value { result ≡ pieces self.now }
         ensures limits { (1 ≤ result) × (result < 2 * MAX_PARTS) }
     {
-        let _geometry = self.geometry();
         self.runs.len()
     }
 
@@ -193,7 +190,6 @@ impl Tables {
         ensures value { result ≡ (first_sent self.now p, first_sent self.now (p + 1)) }
         ensures inside { (result.0 < result.1) × (result.1 ≤ cells self.now) }
     {
-        let _geometry = self.geometry();
         (self.sent[p], self.sent[p + 1])
     }
 
@@ -203,7 +199,6 @@ impl Tables {
         ensures value { result ≡ (first_received self.now q, first_received self.now (q + 1)) }
         ensures inside { (result.0 < result.1) × (result.1 ≤ cells self.now) }
     {
-        let _geometry = self.geometry();
         (self.received[q], self.received[q + 1])
     }
 

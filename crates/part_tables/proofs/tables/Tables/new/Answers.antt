@@ -1,8 +1,6 @@
-use Rattle.part_tables.specs.Parts.{first_sent, first_received}
 use Rattle.part_tables.proofs.tables.Tables.new.Goals as goal
 
 pub invariant_of-result : goal.invariant_of-result
-unfolding first_sent first_received
 invariant_of-result c = record {
   shape = c.total-total.ensures.limits;
   all_cells = c.in_ok-cells.ensures.cells;

@@ -1,4 +1,5 @@
-use Rattle.std.proofs.Common.{◌+◌, ap, arith}
+use Rattle.std.proofs.Common.{◌+◌, ap, subst, arith}
+use Rattle.part_geometry.specs.Shape.{IsShape}
 use Rattle.part_tables.specs.Parts.{first_sent}
 use Rattle.part_tables.proofs.Facts.{first_sent-rises, first_sent-le}
 use Rattle.part_tables.proofs.TableFacts.{table_len, read_two}
@@ -15,14 +16,16 @@ index-requires-2 c =
     omega (arith, c.self.inside.sent.ok.0)
 
 pub returns-clause-value : goal.returns-clause-value
+unfolding first_sent
 returns-clause-value c =
     let e = ap (λ g. g.send_parts) c.self.view_is in
     let h = read_two first_sent _ _ _ c.args.p _ _ _ c.self.invariant.sent_firsts c.self.view_is (omega arith) c.index.ensures c.index-2.ensures in
     λ k. (h.0 k, h.1 k)
 
 pub returns-clause-inside : goal.returns-clause-inside
+unfolding first_sent
 returns-clause-inside c =
-    let v = c.geometry-geometry.ensures.limits in
+    let v = subst IsShape c.self.view_is c.self.invariant.shape in
     let e = ap (λ g. g.send_parts) c.self.view_is in
     let h = read_two first_sent _ _ _ c.args.p _ _ _ c.self.invariant.sent_firsts c.self.view_is (omega arith) c.index.ensures c.index-2.ensures in
     let first = h.0 in let after = h.1 in
