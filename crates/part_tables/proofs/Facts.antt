@@ -6,7 +6,7 @@ use Rattle.std.proofs.lemmas.List.FromFn.{length-map-range_with_len, get_or-map-
 use Rattle.part_geometry.specs.Shape.{Shape, IsShape}
 use Rattle.part_geometry.specs.Cells.{cells, start, end, send_of, recv_of}
 use Rattle.part_geometry.specs.Pieces.{pieces, piece_of, first_cell, last_cell, Touches}
-use Rattle.part_geometry.proofs.Rows.{send-row, recv-row}
+use Rattle.part_geometry.proofs.Rows.{row-le, row-below, send-row, recv-row, piece-row}
 use Rattle.part_tables.specs.Parts.{first_sent, first_received, first_shared, after_shared}
 use Rattle.part_tables.specs.Bytes.{bytes_between, byte_at, cell_bytes, part_bytes, cut}
 use Rattle.part_tables.proofs.CountFacts.{in_part, before-none, before-all, before-le, before-mono, before-rises, before-first}
@@ -111,6 +111,17 @@ after_shared-le g v p i = let few = first_sent-le g v (p + 1) in omega arith
 pub touched : (g : Shape) → IsShape g → (p i : ℕ) → p < g.send_parts → i < pieces g
     → Touches g i p ↔ ((piece_of g (first_sent g p) ≤ i) × (i ≤ piece_of g (first_sent g (p + 1) - 1)))
 touched g v p i part inside = touched-range g v p i part inside
+
+pub touched-some : (g : Shape) → IsShape g → (p : ℕ) → p < g.send_parts
+    → (piece_of g (first_sent g p) ≤ piece_of g (first_sent g (p + 1) - 1)) × (piece_of g (first_sent g (p + 1) - 1) < pieces g)
+touched-some g v p part =
+    let row = piece-row g v in
+    let rise = first_sent-rises g v p part in
+    let few = first_sent-le g v (p + 1) in
+    let first = first_sent g p in let last = first_sent g (p + 1) - 1 in (
+      row-le (piece_of g) (cells g) (pieces g) row first last (omega arith) (omega arith),
+      row-below (piece_of g) (cells g) (pieces g) row last (omega arith),
+    )
 
 -- what it shares with them follows one another, from its first cell to its last
 pub first_shared-first : (g : Shape) → IsShape g → (p : ℕ) → p < g.send_parts → first_shared g p (piece_of g (first_sent g p)) ≡ first_sent g p
