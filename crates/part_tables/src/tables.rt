@@ -111,7 +111,7 @@ fn piece_runs(
 }
 
 /// The cells of a geometry, and where those of each partition and each piece begin. Contracts see the geometry. No
-/// reader divides, walks or allocates.
+/// reader divides by a variable, walks or allocates.
 #[derive(Drop)]
 pub struct Tables {
     geometry: Geometry,
