@@ -1,0 +1,7 @@
+pub mod CountFacts
+pub mod PartFacts
+pub mod ShareFacts
+pub mod ByteFacts
+pub mod RowFacts
+pub mod Facts
+pub mod TableFacts

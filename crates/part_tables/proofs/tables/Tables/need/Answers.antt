@@ -1,0 +1,14 @@
+use Rattle.std.proofs.Common.{ap, ◌∙◌, arith}
+use Rattle.part_geometry.specs.Pieces.{pieces, need}
+use Rattle.part_tables.proofs.TableFacts.{table_len, table_at}
+use Rattle.part_tables.proofs.tables.Tables.need.Goals as goal
+
+pub index-requires : goal.index-requires
+index-requires c =
+    let size = table_len _ _ _ c.self.invariant.all_runs in let e = ap pieces c.self.view_is in
+    omega (arith, c.self.inside.runs.ok.0)
+
+pub returns : goal.returns
+returns c =
+    let e = ap pieces c.self.view_is in
+    ap (λ run. run.need) (c.index.ensures ∙ table_at _ _ _ _ _ c.self.invariant.all_runs (omega arith)) ∙ ap (λ g. need g c.args.i) c.self.view_is
