@@ -17,10 +17,13 @@ pub use Rattle.pair_core.proofs.Puts.{put_here, put_else, put_cases, put_at, put
 pub use Rattle.pair_core.proofs.StateNumbers.{word_here, word_else, number_lt, number_one, lists_put, row_lt, row_one, cell_one}
 pub use Rattle.pair_core.proofs.Words.{bit_lt, bit_or_here, bit_or_else, bit_or_more, round_or, empty_round, empty_bit, later_round, later_bit, later_of, later_refl, later_trans, later_or, later_newer}
 pub use Rattle.pair_core.proofs.Keeps.{keeps}
+pub use Rattle.pair_core.proofs.Cut.{touch_part, bit_small}
+use Rattle.pair_core.proofs.Grow.{words_grow}
 pub use Rattle.pair_core.proofs.Start.{starts_sound}
 
 pub facts : {A : Type 0} (g : Shape) → IsShape g → StateFacts A g
 facts {A} g v = record {
+  words_grow = words_grow g v;
   open_is_active = open_is_active g v;
   may_claim_active = may_claim_active g v;
   claim_home = claim_home g v;

@@ -43,6 +43,7 @@ pub mod StateLay
 pub mod StateCopy
 pub mod StateReplay
 pub mod StateOne
+pub mod Grow
 pub mod FactsKept
 pub mod FactsMarks
 pub mod Facts

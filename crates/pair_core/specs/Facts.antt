@@ -1,11 +1,12 @@
 -- What a layer above may rest on in a sound state, a sentence a fact: each is of one state, or of one move from it.
 use Rattle.std.specs.Prelude.{◌≡◌, ◌≢◌, ◌⊎◌, ℕ, ◌/◌, ◌%◌, ◌<◌, ◌≤◌, Some, None, false}
 use Rattle.gate_word.specs.Words.{round_in}
+use Rattle.gate_word.specs.Order.{IsLater}
 use Rattle.part_geometry.specs.Shape.{Shape}
 use Rattle.part_geometry.specs.Cells.{cells, send_of, recv_of}
 use Rattle.part_geometry.specs.Pieces.{pieces, piece_of, Touches}
 use Rattle.pair_core.specs.Words.{bit}
-use Rattle.pair_core.specs.Names.{Claim, Return, Piece, claim_words}
+use Rattle.pair_core.specs.Names.{Name, Claim, Return, Piece, claim_words, Fits}
 use Rattle.pair_core.specs.Core.{Core, Home, Out, IsMarker, has, times}
 use Rattle.pair_core.specs.Reading.{part_bit, next_round, IsFull}
 use Rattle.pair_core.specs.Steps.{enters}
@@ -32,6 +33,9 @@ module _ {A : Type 0} where
   BringsHome g s m d c = (n : ℕ) × (m ≡ LayPiece n (send_of g c) (piece_of g c)) × (d ≡ s.send.round % g.depth)
 
 pub record StateFacts (A : Type 0) (g : Shape) : Type 0 where
+  -- after a move each word is the one before it, or later
+  pub words_grow : (s : Core A) (m : Move A) (x : Name) → Sound g s → IsAllowed g s m → Fits g x
+      → IsLater (s.word x) ((after g s m).word x)
   -- An open claim word is of the sender's round, and was opened and not yet shut in it; while it lacks a partition, no
   -- claim word is shut.
   pub open_is_active : (s : Core A) (c : ℕ) → Sound g s → c < claim_words g → bit (s.word (Claim c)) 32 ≡ 0

@@ -14,6 +14,7 @@ use Rattle.part_tables.proofs.PartFacts.{send_side, recv_side, start-first, end-
 use Rattle.part_tables.proofs.ShareFacts.{in_piece_lem, in_shared_lem, shared-some_lem, touched-range, shared-next_lem, shared-first_lem, shared-last_lem}
 use Rattle.part_tables.proofs.ByteFacts.{bytes_between-joined, length-cut_lem, cut-is_lem, cell_bytes-agree_lem, sent_bytes_lem}
 use Rattle.part_tables.proofs.RowFacts.{received-row_lem, sent-row_lem}
+pub use Rattle.part_tables.proofs.ByteFacts.{IsInside, cell-inside, byte_in}
 
 -- ---- the cells of a send partition
 
