@@ -1,15 +1,15 @@
 #![tactic(auto)]
 
-ghost use Rattle.std.specs.Prelude.{◌≡◌, ◌+◌, ◌*◌, ◌<◌};
+ghost use Rattle.std.specs.Prelude.{◌≡◌, ◌+◌, ◌-◌, ◌<◌};
+ghost use Rattle.part_tables.specs.Parts.{first_sent};
 
 use part_tables::Tables;
 
-/// Where receive partition `q` begins and ends, in bytes from the start of the message.
-pub fn received_bytes(tables: &Tables, q: usize) -> (u32, u32)
-    requires { q < tables.now.recv_parts }
-    ensures { result ≡ (q * tables.now.recv_bytes, (q + 1) * tables.now.recv_bytes) }
+/// How many cells send partition `p` has.
+pub fn sent_cells(tables: &Tables, p: usize) -> usize
+    requires { p < tables.now.send_parts }
+    ensures { result ≡ first_sent tables.now (p + 1) - first_sent tables.now p }
 {
-    let _limits = tables.geometry();
-    let (first, after) = tables.received(q);
-    (tables.cell(first).start, tables.cell(after - 1).end)
+    let (first, after) = tables.sent(p);
+    after - first
 }
