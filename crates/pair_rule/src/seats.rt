@@ -139,6 +139,7 @@ impl Shelf {
 /// shelf with room for the buffers of each receive partition, while the partition isn't out.
 pub struct RecvSeat<C: Content> {
     pub(crate) seat: Place,
+    pub(crate) round: u32,
     pub(crate) lanes: Vec<Lane>,
     pub(crate) shelves: Vec<Option<Shelf>>,
     pub(crate) content: PhantomData<C>,
@@ -154,7 +155,7 @@ impl<C: Content> Model for RecvSeat<C> {
     ghost view = { λ s. record { table = s.seat.table_id; view = s.seat.me.0; lanes = s.lanes.items; slots = s.seat.me.1; shelves = s.shelves.items } };
 
     ghost invariant = { λ s. (s.seat.me.0.standing ≡ Seated) × (s.seat.me.0.number ≡ 1) × AreLanes s.seat.me.0 (length s.seat.me.1) s.lanes.items
-        × (length s.shelves.items ≡ s.seat.me.0.geometry.recv_parts) };
+        × (length s.shelves.items ≡ s.seat.me.0.geometry.recv_parts) × (s.round ≡ s.seat.me.0.recv.round) };
 }
 
 /// What a seat had seen when it made the note. It is no seat, makes no step, and may be dropped.
@@ -238,7 +239,25 @@ impl<C: Content> WatchSeat<C> {
 
 impl<C: Content> RecvSeat<C> {
     ghost use Rattle.pair_core.specs.Moves.{IsRecvIdle};
+    ghost use Rattle.pair_rule.specs.Seats.{AreLanes};
     ghost use Rattle.pair_rule.specs.declared.view.Standing.TheVariants.{Seated};
+
+    /// The receive side's round, 0 before the first.
+    pub fn round(&self) -> u32
+        ensures { result ≡ self.now.view.recv.round }
+    {
+        self.round
+    }
+
+    /// A lane for each receive partition: whether it was taken in the side's round, and whether its slots are out.
+    pub fn lanes(&self) -> &[Lane]
+        ensures value { result.now ≡ self.now.lanes }
+        ensures number { self.now.view.number ≡ 1 }
+        ensures kept { AreLanes self.now.view (length self.now.slots) self.now.lanes }
+        ensures shelves { length self.now.shelves ≡ self.now.view.geometry.recv_parts }
+    {
+        &self.lanes
+    }
 
     /// The seat of the table alone.
     pub(crate) fn into_place(self) -> Place
@@ -248,6 +267,7 @@ impl<C: Content> RecvSeat<C> {
     {
         let RecvSeat {
             seat,
+            round: _,
             lanes: _,
             shelves: _,
             content: _,
@@ -303,6 +323,7 @@ impl<C: Content> Drop for RecvSeat<C> {
     fn drop(self) {
         let RecvSeat {
             seat: _,
+            round: _,
             lanes: _,
             shelves: _,
             content: _,

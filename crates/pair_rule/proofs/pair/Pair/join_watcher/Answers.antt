@@ -21,5 +21,5 @@ pub invariant_of-into : goal.invariant_of-into
 invariant_of-into g c =
     let into = c.into.inside in let i = c.into.invariant in
     subst (λ (me : Me (Option Buf) View). (me.0.standing ≡ Seated) × (me.0.number ≡ 1) × AreLanes me.0 (length me.1) into.lanes.items
-    × (length into.shelves.items ≡ me.0.geometry.recv_parts))
-    (sym c.join_seat.ensures.2) (i.0, i.1, lanes_join into.seat.me.0 c.into_place.result.me.0 (length into.seat.me.1) into.lanes.items i.1 i.2, i.3)
+    × (length into.shelves.items ≡ me.0.geometry.recv_parts) × (into.round ≡ me.0.recv.round))
+    (sym c.join_seat.ensures.2) (i.0, i.1, lanes_join into.seat.me.0 c.into_place.result.me.0 (length into.seat.me.1) into.lanes.items i.1 i.2, i.3, i.4)
