@@ -23,7 +23,7 @@ invariant_of-into g c =
     let me : Seat = c.load_claim_as.new.seat.me in
     let is : c.load_claim_as.new.seat.me ≡ (saw (Claim 0) c.load_claim_as.result both, into.seat.me.1) =
       c.load_claim_as.ensures.step ∙ ap (λ (z : Seat). let y : Seat = (saw (Claim 0) c.load_claim_as.result z.0, z.1) in y) c.join_seat.ensures.2 in
-    subst (λ (z : Seat). (z.0.standing ≡ Seated) × (z.0.number ≡ 1) × AreLanes z.0 (length z.1) into.lanes.items × (length into.shelves.items ≡ z.0.geometry.recv_parts))
+    subst (λ (z : Seat). (z.0.standing ≡ Seated) × (z.0.number ≡ 1) × AreLanes z.0 (length z.1) into.lanes.items × (length into.shelves.items ≡ z.0.geometry.recv_parts) × (into.round ≡ z.0.recv.round))
     (sym is)
     (i.0, i.1, lanes_stay both (Claim 0) c.load_claim_as.result (length into.seat.me.1) into.lanes.items (search rules) (other_claim 0)
-      (lanes_join into.seat.me.0 c.into_place.result.me.0 (length into.seat.me.1) into.lanes.items i.1 i.2), i.3)
+      (lanes_join into.seat.me.0 c.into_place.result.me.0 (length into.seat.me.1) into.lanes.items i.1 i.2), i.3, i.4)
