@@ -139,8 +139,7 @@ module _ {T : Type 0} (may : T → ℕ → ℕ → ℕ → Type 0) (key : Key T)
           let seen = seen_same G r.shape c r.alone r.markers r.watchers r.seat id d a' y fits in
           let later : IsLater (view.seen d y) (get_or s.words (number G y) 0) =
           subst (λ (z : ℕ × ℕ). IsLater z.0 z.1) (λ q. (sym seen q, sym (r.words y fits) q))
-          (r.sound.seen.present d.number y (unspent G r.shape c r.alone r.markers r.watchers r.seat id d a' d.number refl) fits) in
-          (
+          (r.sound.seen.present d.number y (unspent G r.shape c r.alone r.markers r.watchers r.seat id d a' d.number refl) fits) in (
             ap round_in word ∙ (r.sound.pieces.current i (omega arith) ∙ sym is.round),
             (λ q. laid (same q) (word q) i (sym lay.partition q)) ∙ missing,
             subst (λ (z : ℕ × Shape). IsLater (view.seen d (Piece (z.0 % z.1.depth) i)) (get_or s.words (number G y) 0)) (λ q. (sym round q, sym same q)) later,

@@ -85,7 +85,8 @@ tries p b st me found me' =
     × (found ≢ st.first → me' ≡ (view.saw (Claim (p / 32)) found me.0, me.1))
     × IsLater st.first found
 
--- what the lay tells: it found the piece's word in the round of the claim, and without the partition; the one that was seen, or later
+-- what the lay tells: it found the piece's word in the round of the claim, and without the partition; it is the one
+-- that the seat has last seen, or later
 abbrev pub lays : ℕ → ℕ → Step (Option Buf) → Seat → ℕ → Seat → Type 0
 lays p i st me found me' = (x : Pending) → me.0.pending ≡ Some x
     → (me' ≡ (view.laid i x (with_part me.0.geometry i p found) me.0, drop (shared_count me.0.geometry p i) me.1))

@@ -100,8 +100,9 @@ impl<C: Content> Pair<C> {
     }
 
     /// A marker lays its pending claim of a partition into a piece, and answers the word of the piece that it found,
-    /// which has the claim's round and lacks the partition, and is the one last seen, or a later one. The buffers of the cells that both share go home. They are
-    /// the first of those that are out, and each is filled with its part of the mark's bytes.
+    /// which has the claim's round and lacks the partition; it is the word last seen, or a later one. The buffers of
+    /// the cells that both share go home. They are the first of those that are out, and each is filled with its part
+    /// of the mark's bytes.
     pub fn mark_piece(&self, seat: &mut MarkSeat<C>, round: u32, partition: u32, piece: u32) -> u64
         requires pair { IsOf seat.old.table seat.old.view self.now }
         requires filled { IsFilled round partition piece seat.old.view seat.old.first seat.old.out }
