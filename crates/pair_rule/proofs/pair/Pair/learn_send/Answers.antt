@@ -1,4 +1,4 @@
-use Rattle.std.proofs.Common.{rules, ◌≡◌, sym, subst, arith}
+use Rattle.std.proofs.Common.{sym, subst}
 use Rattle.pair_rule.specs.Views.{told}
 use Rattle.pair_rule.proofs.SendViews.{IsSending, send_told, send_looks_claim}
 use Rattle.pair_rule.proofs.pair.Pair.learn_send.Goals as goal
