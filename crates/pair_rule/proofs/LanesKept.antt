@@ -25,13 +25,11 @@ use Rattle.pair_rule.specs.Rule.{slot_number}
 use Rattle.pair_rule.specs.Steps.{MayMake}
 use Rattle.pair_rule.specs.Parts.{untaken, fresh_lanes, first_slot, cell_spot}
 use Rattle.pair_rule.specs.declared.view.View.{View}
+use Rattle.pair_rule.proofs.LanesStay.{seen_else}
 
 -- the word of a name after the seat saw w at the name x
 pub seen_here : (d : View) (x : Name) (w : ℕ) → Fits d.geometry x → length d.seen ≡ word_count d.geometry → seen (saw x w d) x ≡ w
 seen_here d x w fits size = get_or-set_same d.seen (number d.geometry x) w 0 (subst (λ (z : ℕ). number d.geometry x < z) (sym size) (number_lt d.geometry x fits))
-
-pub seen_else : (d : View) (x y : Name) (w : ℕ) → Fits d.geometry x → Fits d.geometry y → y ≢ x → seen (saw x w d) y ≡ seen d y
-seen_else d x y w fits there other = get_or-set_other d.seen (number d.geometry x) (number d.geometry y) w 0 (λ e. other (number_one d.geometry y x there fits e))
 
 take_one : (a b : ℕ) → Take a ≡ Take b → a ≡ b
 take_one a b e = ap index e
