@@ -6,6 +6,7 @@ pub mod gate_word_caller;
 pub mod grid_text_caller;
 pub mod init_match_caller;
 pub mod pair_core_caller;
+pub mod pair_rule_caller;
 pub mod part_api_caller;
 pub mod part_geometry_caller;
 pub mod part_io_caller;
