@@ -1,6 +1,6 @@
 #![tactic(auto)]
 
-ghost use Rattle.std.specs.Prelude.{◌≡◌, ◌≤◌};
+ghost use Rattle.std.specs.Prelude.{◌≡◌, ℕ, ◌≤◌};
 ghost use Rattle.gate_word.specs.Words.{round_in};
 ghost use Rattle.pair_core.specs.Names.{Claim, Release};
 ghost use Rattle.pair_rule.specs.First.{marker, with_marker, with_marker_back};
@@ -14,6 +14,8 @@ use pair_rule::{Content, Pair, SendSeat};
 /// The last round that the receive side is done with, as a look tells now: no less than the send side had seen.
 pub fn released<C: Content>(pair: &Pair<C>, seat: &mut SendSeat<C>) -> u32
     requires { IsOf seat.old.table seat.old.view pair.now }
+    ensures step { (word : ℕ) × (seat.new ≡ record seat.old { view = saw Release word seat.old.view })
+        × (result ≡ round_in word) }
     ensures grows { round_in (seen seat.old.view Release) ≤ result }
 {
     let word = pair.load_release(seat);
