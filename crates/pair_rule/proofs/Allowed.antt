@@ -20,19 +20,24 @@ use Rattle.pair_rule.specs.declared.view.View.{View}
 pub word_there : (p n : ℕ) → p < n → p / 32 < (n + 31) / 32
 word_there p n h = omega arith
 
+-- the place of a round is one of the depth's
 pub place_there : (k depth : ℕ) → 1 ≤ depth → k % depth < depth
 place_there k depth positive = omega arith
 
 module _ (g : Shape) (v : IsShape g) (c : Shown) (alone : Bool) (markers watchers : ℕ) (seat : ℕ → ℕ) (id : ℕ) (d : View) (a : Agrees g c alone markers watchers seat id d) where
+  -- what the view has seen is what the core's view has seen
   pub seen_same : (x : Name) → Fits g x → seen d x ≡ c.seen d.number x
   seen_same x fits = ap (λ (z : Shape). get_or d.seen (number z x) 0) a.geometry ∙ a.seen_is x fits
 
+  -- the same, by its number
   pub seen_of : (n : ℕ) → d.number ≡ n → (x : Name) → Fits g x → seen d x ≡ c.seen n x
   seen_of n e x fits = seen_same x fits ∙ ap (λ (z : ℕ). c.seen z x) e
 
+  -- a seat of the table isn't spent
   pub unspent : (n : ℕ) → d.number ≡ n → (c.life n ≡ Spent) → ⊥
   unspent n e gone = let l : c.life n ≡ Live = ap c.life (sym e) ∙ a.live in absurd (cc)
 
+  -- the claim word, take word and piece word of what the geometry has are there
   pub claim_there : (p : ℕ) → p < g.send_parts → Fits g (Claim (p / 32))
   claim_there p h = word_there p g.send_parts h
 
@@ -76,6 +81,7 @@ module _ (c : Shown) (alone : Bool) (markers watchers : ℕ) (seat : ℕ → ℕ
   recv : d.number ≡ 1 → (P : RecvSide → Type 0) → P d.recv → P c.recv
   recv e P h = subst P (a.recv_is e) h
 
+  -- what a seat may make by its view the core allows
   pub allowed_by : (m : Move (List ℕ)) → MayMake d m → IsAllowed G c m
   allowed_by (StorePiece k i) h = (
     h.1,

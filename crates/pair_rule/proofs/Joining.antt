@@ -158,6 +158,7 @@ module _ {T : Type 0} (may : T → ℕ → ℕ → ℕ → Type 0) (key : Key T)
     abbrev pub told : Shown
     told = rises of w 0 c
 
+    -- the core after that is sound
     pub told_sound : Sound G told
     told_sound = L.kept c (Rise of w 0) sound (
       alive,
@@ -167,12 +168,15 @@ module _ {T : Type 0} (may : T → ℕ → ℕ → ℕ → Type 0) (key : Key T)
       λ x fits. risen_else G f (c.seen of) x fits,
     )
 
+    -- the seat has then seen what it was told
     pub told_sees : (x : Name) → Fits G x → told.seen of x ≡ f x
     told_sees x fits = ap (λ (g : Name → ℕ). g x) (put_here c.seen of w) ∙ risen_here G f (c.seen of) x fits
 
+    -- and others what they had seen
     pub told_seen_else : (m : ℕ) → m ≢ of → (x : Name) → told.seen m x ≡ c.seen m x
     told_seen_else m o x = ap (λ (g : Name → ℕ). g x) (put_else c.seen of w m o)
 
+    -- no look was made
     pub told_looks : (m : ℕ) (x : Name) → told.looks m x ≡ c.looks m x
     told_looks m x = dite (ℕ_discrete m of)
         (λ is. ap (λ (z : ℕ). told.looks z x) is ∙ (ap (λ (g : Name → ℕ). g x) (put_here c.looks of (put_word (Claim 0) (c.looks of (Claim 0) + 0) (c.looks of)))
@@ -182,6 +186,7 @@ module _ {T : Type 0} (may : T → ℕ → ℕ → ℕ → Type 0) (key : Key T)
   -- the words that a view has seen once it is told what another has seen
   module _ (law : IsJoin) (s : At) (r : Rule may key s) (id : ℕ) (d e : View) (a : Agrees G r.core r.alone r.markers r.watchers r.seat id d)
       (below : (x : Name) → Fits G x → IsLater (get_or e.seen (number G x) 0) (r.core.word x)) where
+    -- the words that the view has seen then, by name
     pub heard : Name → ℕ
     heard x = told_word d e (number G x)
 
@@ -193,6 +198,7 @@ module _ {T : Type 0} (may : T → ℕ → ℕ → ℕ → Type 0) (key : Key T)
     either_between true v u top low high = (later_refl v, low)
     either_between false v u top low high = let least = law.least v u in (least.first, least.least top low high)
 
+    -- each lies between what it had seen and what is
     pub heard_between : (x : Name) → Fits G x → IsLater (r.core.seen d.number x) (heard x) × IsLater (heard x) (r.core.word x)
     unfolding heard either
     heard_between x fits =
@@ -202,11 +208,13 @@ module _ {T : Type 0} (may : T → ℕ → ℕ → ℕ → Type 0) (key : Key T)
         let both = either_between (is_own d (number G x)) (get_or d.seen (number G x) 0) (get_or e.seen (number G x) 0) (r.core.word x) top (below x fits) in
         (subst (λ (z : ℕ). IsLater z (heard x)) is both.0, both.1)
 
+    -- they stand in its list
     pub heard_at : (x : Name) → Fits G x → get_or (view.told d e).seen (number G x) 0 ≡ heard x
     unfolding heard
     heard_at x fits = get_or-map-range_with_len (told_word d e) 0 (word_count d.geometry) (number G x) (number G x) 0
         (subst (λ (z : Shape). number G x < word_count z) (sym a.geometry) (number_lt G x fits)) (let e : 0 + number G x ≡ number G x = omega arith in e)
 
+    -- which has its length
     pub heard_size : length (view.told d e).seen ≡ word_count G
     heard_size = length-map-range_with_len (told_word d e) 0 (word_count d.geometry) ∙ ap word_count a.geometry
 

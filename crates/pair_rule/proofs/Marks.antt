@@ -6,6 +6,7 @@ use Rattle.pair_core.specs.Core.{is_mark, times}
 use Rattle.pair_core.specs.declared.view.Mark.{Mark}
 
 module _ {X : Type 0} where
+  -- what stands in a list is its first element or stands in the rest
   pub in_cons : (x y : X) (xs : List X) → Contains (x ∷ xs) y → (x ≡ y) ⊎ Contains xs y
   in_cons x y xs (zero, low, at) = inl at
   in_cons x y xs (suc k, low, at) = inr (k, omega arith, at)
@@ -44,6 +45,7 @@ module _ {A : Type 0} where
   is_itself : (m : Mark A) → is_mark m.round m.partition m ≡ true
   is_itself m = (λ i. eq-eqb m.round m.round refl i && eq-eqb m.partition m.partition refl i)
 
+  -- a mark in a list counts
   pub times_in : (m : Mark A) (ms : List (Mark A)) → Contains ms m → 1 ≤ times m.round m.partition ms
   times_in m [] h = absurd (in_none m h)
   times_in m (x ∷ xs) h = ⊎_elim

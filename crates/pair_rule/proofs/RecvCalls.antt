@@ -1,5 +1,5 @@
 -- What the receive side's stores ask of the table, with the numbers of a call in the place of the names of words.
-use Rattle.std.proofs.Common.{◌≡◌, ℕ, false, refl, sym, ◌∙◌, subst}
+use Rattle.std.proofs.Common.{◌≡◌, ℕ, sym, subst}
 use mathlib.Core.Option.{none}
 use Rattle.atomic_table.specs.Table.{Allows, step}
 use Rattle.part_geometry.specs.Shape.{IsShape}

@@ -43,6 +43,7 @@ module _ {T : Type 0} (may : T → ℕ → ℕ → ℕ → Type 0) (key : Key T)
       let l = leads s (of_running s h id d at live) at in (view (found (get_or s.words (number key.geometry x) 0)) d, keeps, tt, inl l.1.0, (refl, l.2))
 
   module _ (s : At) (r : Rule may key s) (id : ℕ) (d : View) (at : get_elem? s.views id ≡ some d) (live : d.standing ≡ Seated) where
+    -- the send side's stores
     pub store_piece_leads : (k i : ℕ) → MayMake d (StorePiece k i)
         → Held may key (stepped_to may key L s (Piece (k % key.geometry.depth) i) (empty k) id (view.stored_piece k i d)) (after key.geometry r.core (StorePiece k i))
     store_piece_leads k i h =
@@ -62,6 +63,7 @@ module _ {T : Type 0} (may : T → ℕ → ℕ → ℕ → Type 0) (key : Key T)
         (ap (λ (z : ℕ). let e : Shown = record (wrote 0 (Claim c) (empty z) r.core) { send = record r.core.send { opened = c + 1 } } in e) (sym (here ∙ now))) (λ n p j e. absurd (cc)) in
         subst (λ (z : ℕ). Held may key (stepped_to may key L s (Claim c) (empty k) id (record (view.saw (Claim c) z d) { send = record d.send { opened = c + 1 } })) (after key.geometry r.core (StoreClaim k c))) (sym word) led
 
+    -- its shut
     pub shut_claim_leads : (c v : ℕ) → v ≡ get_or s.words (number key.geometry (Claim c)) 0 → MayMake d (ShutClaim c)
         → Held may key (stepped_to may key L s (Claim c) (bit_or v (2 ^ 32)) id (view.shut_claim c (bit_or v (2 ^ 32)) d)) (after key.geometry r.core (ShutClaim c))
     shut_claim_leads c v found h =
@@ -71,6 +73,7 @@ module _ {T : Type 0} (may : T → ℕ → ℕ → ℕ → Type 0) (key : Key T)
         sends may key L s r id d (ShutClaim c) (λ g. Claim c) (bit_or v (2 ^ 32)) (λ y. record y { shut = c + 1 }) at live h.0 fits h
         (ap (λ (z : ℕ). let e : Shown = record (wrote 0 (Claim c) (bit_or z (2 ^ 32)) r.core) { send = record r.core.send { shut = c + 1 } } in e) (sym is)) (λ n p j e. absurd (cc))
 
+    -- the receive side's stores
     pub store_return_leads : (k t : ℕ) → MayMake d (StoreReturn k t)
         → Held may key (stepped_to may key L s (Return t) (empty k) id (view.stored_return k t d)) (after key.geometry r.core (StoreReturn k t))
     store_return_leads k t h =
@@ -119,6 +122,7 @@ module _ {T : Type 0} (may : T → ℕ → ℕ → ℕ → Type 0) (key : Key T)
     entered n x e = let a = r.seats id d at live in
         ap (λ (z : ℕ). loads z x (enters z r.core)) (sym e) ∙ ap (loads d.number x) (L.facts.enters_live r.core d.number a.live)
 
+    -- the looks
     pub load_claim_leads : (n c v : ℕ) → v ≡ get_or s.words (number key.geometry (Claim c)) 0 → MayMake d (LoadClaim n c)
         → Held may key (stepped_to may key L s (Claim c) v id (view.saw (Claim c) v d)) (after key.geometry r.core (LoadClaim n c)) × Learns d (Claim c) v
     load_claim_leads n c v found h = look_leads (LoadClaim n c) (Claim c) v found (subst (λ (z : Shape). c < claim_words z) (r.seats id d at live).geometry h.1) h (entered n (Claim c) h.0) (λ j p i e. absurd (cc))

@@ -79,10 +79,12 @@ chosen_no (inr _) a b lacks = refl
 pub risen : Shape → (Name → ℕ) → (Name → ℕ) → Name → ℕ
 risen g f h x = chosen (fits_or g x) (f x) (h x)
 
+-- of a name that the pair has
 pub risen_here : (g : Shape) (f h : Name → ℕ) (x : Name) → Fits g x → risen g f h x ≡ f x
 unfolding risen
 risen_here g f h x fits = chosen_yes (fits_or g x) (f x) (h x) fits
 
+-- and of one that it hasn't
 pub risen_else : (g : Shape) (f h : Name → ℕ) (x : Name) → ¬ Fits g x → risen g f h x ≡ h x
 unfolding risen
 risen_else g f h x lacks = chosen_no (fits_or g x) (f x) (h x) lacks
@@ -325,6 +327,7 @@ module _ {T : Type 0} (may : T → ℕ → ℕ → ℕ → Type 0) (key : Key T)
   enters_blank : (c : Shown) (n : ℕ) → c.life n ≡ Blank → enters n c ≡ counted (n % 2 == 0) n c
   enters_blank c n blank = ap (λ (z : Life). entered z n c) blank
 
+  -- the send side makes a marker
   pub marker_splits : CoreLaws G → (id : ℕ) (d : View) → d.standing ≡ Seated → d.number ≡ 0 → d.alone ≡ false
       → Splits (Holds may key) id d (with_marker d) (marker d)
   marker_splits L id d live zeroth company s h at =
@@ -390,6 +393,7 @@ module _ {T : Type 0} (may : T → ℕ → ℕ → ℕ → Type 0) (key : Key T)
         watchers_is = λ z. absurd (omega arith);
       }))
 
+  -- the receive side makes a watcher
   pub watcher_splits : CoreLaws G → (id : ℕ) (d : View) → d.standing ≡ Seated → d.number ≡ 1
       → Splits (Holds may key) id d (with_watcher d) (watcher d)
   watcher_splits L id d live oneth s h at =
@@ -465,6 +469,7 @@ module _ {T : Type 0} (may : T → ℕ → ℕ → ℕ → Type 0) (key : Key T)
         seen_is = λ x fits. subst (λ (z : ℕ). IsLater z (r.core.word x)) (sym (a.seen_is x fits)) (r.sound.seen.present d.number x unspent fits);
       }
 
+  -- a seat makes a note
   pub note_splits : CoreLaws G → (id : ℕ) (d : View) → d.standing ≡ Seated → Splits (Holds may key) id d d (note d)
   note_splits L id d live s h at =
       let r = of_running may key L s h id d at live in

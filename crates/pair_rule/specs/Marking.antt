@@ -1,5 +1,6 @@
 -- The steps of a marking seat that move slots: a claim that wins, and a lay.
-use Rattle.std.specs.Prelude.{◌≡◌, ◌≢◌, ℕ, ◌+◌, ◌-◌, ◌/◌, ◌%◌, ◌^◌, ◌≤◌, List, ◌++◌, length, map, drop, Contains, bit_or, Option, Some}
+use Rattle.std.specs.Prelude.{◌≡◌, ◌≢◌, ℕ, ◌+◌, ◌-◌, ◌/◌, ◌%◌, ◌^◌, ◌≤◌, List, ◌++◌, length, map, drop, Contains}
+use Rattle.std.specs.Prelude.{bit_or, Option, Some}
 use Rattle.gate_word.specs.Words.{round_in}
 use Rattle.gate_word.specs.Order.{IsLater}
 use Rattle.part_geometry.specs.Shape.{Shape}
@@ -39,8 +40,8 @@ shared_slot g k p i = slot_number g (k % g.depth) (first_shared g p i)
 abbrev pub with_part : Shape → ℕ → ℕ → ℕ → ℕ
 with_part g i p w = bit_or w (2 ^ (p - first_part g i))
 
--- A claim of partition p won, in the round of the claim word that was shown. The buffers of the partition's cells at the
--- round's place are out with the seat.
+-- A claim of partition p won, in the round of the claim word that was shown. The buffers of the partition's cells at
+-- the round's place are out with the seat.
 pub record HasWon (shown p : ℕ) (b : List ℕ) (old new : MarkHeld) : Type 0 where
   pub table : new.table ≡ old.table
   pub view : new.view ≡ view.claimed (round_in shown) p b (bit_or shown (2 ^ (p % 32))) old.view

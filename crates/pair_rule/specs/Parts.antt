@@ -1,6 +1,7 @@
 -- What the steps on receive partitions find, and do to the lanes and slots of the seat that makes them.
 use Rattle.std.specs.Prelude.{ℕ, zero, suc, ◌+◌, ◌-◌, ◌*◌, ◌/◌, ◌%◌, ◌^◌, ◌<◌, true, false, bit_or}
-use Rattle.std.specs.Prelude.{◌≡◌, slice_index, slice_set, List, [], ◌∷◌, ◌++◌, map, take, drop, length, replicate, Option, Some, None}
+use Rattle.std.specs.Prelude.{◌≡◌, slice_index, slice_set, List, [], ◌∷◌, ◌++◌, map, take, drop, length, replicate}
+use Rattle.std.specs.Prelude.{Option, Some, None}
 use Rattle.std.specs.List.{range_with_len, flat_map}
 use mathlib.Core.Option.{some}
 use lib.ListN.{get_elem?}

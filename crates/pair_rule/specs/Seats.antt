@@ -61,8 +61,8 @@ pub record Room : Type 0 where
   pub bufs : List Buf
   pub room : ℕ
 
--- The receive seat has a lane for each receive partition, and the slots of the lanes that are out, in their order; and an empty
--- vector with room for the buffers of each partition, where it hasn't been taken out.
+-- The receive seat has a lane for each receive partition, and the slots of the lanes that are out, in their order;
+-- and an empty vector with room for the buffers of each partition, where it hasn't been taken out.
 pub record RecvHeld : Type 0 where
   pub table : TableId
   pub view : View

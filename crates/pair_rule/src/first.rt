@@ -77,6 +77,7 @@ fn cell_buf(alloc: Global, tables: &Tables, c: usize) -> Result<CellBuf, AllocEr
     requires { c < cells tables.now }
     ensures { IfOk result (λ b. b ≡ buf 0 (replicate (cell_length tables.now c) 0)) }
 {
+    // The geometry's limits, for the proof.
     let _geometry = tables.geometry();
     let cell = tables.cell(c);
     let bytes = Vec::from_elem(alloc, 0u8, (cell.end - cell.start) as usize)?;

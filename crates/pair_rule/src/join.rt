@@ -44,13 +44,15 @@ impl Join<View> for Hears {
 }
 
 impl<C: Content> Pair<C> {
-    /// A marker that has no claim pending is joined into the send side, which has then seen what both have seen, and has the
-    /// marks of both; then the side looks at claim word 0, and what this finds is the answer.
+    /// A marker that has no claim pending is joined into the send side, which has then seen what both have seen, and
+    /// has the marks of both; then the side looks at claim word 0, and what this finds is the answer.
     pub fn join_marker(&self, into: &mut SendSeat<C>, seat: MarkSeat<C>) -> u64
         requires pair { IsOf into.old.table into.old.view self.now }
         requires same { seat.table ≡ into.old.table }
         requires idle { (seat.view.pending ≡ None) × (seat.out ≡ []) }
-        ensures step { into.new ≡ record into.old { view = saw (Claim 0) result (with_marker_back into.old.view seat.view) } }
+        ensures step { into.new ≡ record into.old {
+          view = saw (Claim 0) result (with_marker_back into.old.view seat.view);
+        } }
         ensures told { Learns (with_marker_back into.old.view seat.view) (Claim 0) result }
     {
         self.table
@@ -59,12 +61,14 @@ impl<C: Content> Pair<C> {
         self.load_claim_as::<Brand>(&mut into.seat, 0)
     }
 
-    /// A watcher is joined into the receive side, which has then seen what both have seen; then the side looks at claim word 0,
-    /// and what this finds is the answer.
+    /// A watcher is joined into the receive side, which has then seen what both have seen; then the side looks at
+    /// claim word 0, and what this finds is the answer.
     pub fn join_watcher(&self, into: &mut RecvSeat<C>, seat: WatchSeat<C>) -> u64
         requires pair { IsOf into.old.table into.old.view self.now }
         requires same { seat.table ≡ into.old.table }
-        ensures step { into.new ≡ record into.old { view = saw (Claim 0) result (with_watcher_back into.old.view seat.view) } }
+        ensures step { into.new ≡ record into.old {
+          view = saw (Claim 0) result (with_watcher_back into.old.view seat.view);
+        } }
         ensures told { Learns (with_watcher_back into.old.view seat.view) (Claim 0) result }
     {
         self.table
@@ -88,8 +92,8 @@ impl<C: Content> Pair<C> {
         self.load_claim_as::<Brand>(place, 0)
     }
 
-    /// The send side is told what the giver of a note had seen, and has then seen what both had; then it looks at claim word 0, and what
-    /// this finds is the answer.
+    /// The send side is told what the giver of a note had seen, and has then seen what both had; then it looks at
+    /// claim word 0, and what this finds is the answer.
     pub fn learn_send(&self, seat: &mut SendSeat<C>, note: Note<C>) -> u64
         requires pair { IsOf seat.old.table seat.old.view self.now }
         requires same { note.table ≡ seat.old.table }
@@ -99,8 +103,8 @@ impl<C: Content> Pair<C> {
         self.hear(&mut seat.seat, note)
     }
 
-    /// A marker is told what the giver of a note had seen, and has then seen what both had; then it looks at claim word 0, and what
-    /// this finds is the answer.
+    /// A marker is told what the giver of a note had seen, and has then seen what both had; then it looks at claim
+    /// word 0, and what this finds is the answer.
     pub fn learn_marker(&self, seat: &mut MarkSeat<C>, note: Note<C>) -> u64
         requires pair { IsOf seat.old.table seat.old.view self.now }
         requires same { note.table ≡ seat.old.table }
@@ -110,8 +114,8 @@ impl<C: Content> Pair<C> {
         self.hear(&mut seat.seat, note)
     }
 
-    /// The receive side is told what the giver of a note had seen, and has then seen what both had; then it looks at claim word 0, and what
-    /// this finds is the answer.
+    /// The receive side is told what the giver of a note had seen, and has then seen what both had; then it looks at
+    /// claim word 0, and what this finds is the answer.
     pub fn learn_recv(&self, seat: &mut RecvSeat<C>, note: Note<C>) -> u64
         requires pair { IsOf seat.old.table seat.old.view self.now }
         requires same { note.table ≡ seat.old.table }
@@ -121,8 +125,8 @@ impl<C: Content> Pair<C> {
         self.hear(&mut seat.seat, note)
     }
 
-    /// A watcher is told what the giver of a note had seen, and has then seen what both had; then it looks at claim word 0, and what
-    /// this finds is the answer.
+    /// A watcher is told what the giver of a note had seen, and has then seen what both had; then it looks at claim
+    /// word 0, and what this finds is the answer.
     pub fn learn_watcher(&self, seat: &mut WatchSeat<C>, note: Note<C>) -> u64
         requires pair { IsOf seat.old.table seat.old.view self.now }
         requires same { note.table ≡ seat.old.table }

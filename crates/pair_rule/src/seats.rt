@@ -29,8 +29,8 @@ impl<C: Content> Model for SendSeat<C> {
         × (s.seat.me.0.alone ≡ false) × IsSendView s.seat.me.0 × (s.round ≡ s.seat.me.0.send.round) };
 }
 
-/// The seat of a thread that marks. While a claim of it pends, slots of the claimed partition are out with it: `count` of
-/// them, numbered from `first` on.
+/// The seat of a thread that marks. While a claim of it pends, slots of the claimed partition are out with it:
+/// `count` of them, numbered from `first` on.
 pub struct MarkSeat<C: Content> {
     pub(crate) seat: Place,
     pub(crate) first: usize,
@@ -47,7 +47,12 @@ impl<C: Content> Model for MarkSeat<C> {
 
     ghost Value = { MarkHeld };
 
-    ghost view = { λ s. record { table = s.seat.table_id; view = s.seat.me.0; first = s.first; out = values s.seat.me.1 } };
+    ghost view = { λ s. record {
+      table = s.seat.table_id;
+      view = s.seat.me.0;
+      first = s.first;
+      out = values s.seat.me.1;
+    } };
 
     ghost invariant = { λ s. (s.seat.me.0.standing ≡ Seated) × IsMarker s.seat.me.0.number
         × (s.seat.me.1 ≡ row s.first (values s.seat.me.1)) × (s.count ≡ length s.seat.me.1) };
@@ -135,8 +140,8 @@ impl Shelf {
     }
 }
 
-/// The seat of the receive side, the only one that takes partitions, gives them back and releases rounds. It keeps an empty
-/// shelf with room for the buffers of each receive partition, while the partition isn't out.
+/// The seat of the receive side, the only one that takes partitions, gives them back and releases rounds. It keeps an
+/// empty shelf with room for the buffers of each receive partition, while the partition isn't out.
 pub struct RecvSeat<C: Content> {
     pub(crate) seat: Place,
     pub(crate) round: u32,
@@ -152,9 +157,16 @@ impl<C: Content> Model for RecvSeat<C> {
 
     ghost Value = { RecvHeld };
 
-    ghost view = { λ s. record { table = s.seat.table_id; view = s.seat.me.0; lanes = s.lanes.items; slots = s.seat.me.1; shelves = s.shelves.items } };
+    ghost view = { λ s. record {
+      table = s.seat.table_id;
+      view = s.seat.me.0;
+      lanes = s.lanes.items;
+      slots = s.seat.me.1;
+      shelves = s.shelves.items;
+    } };
 
-    ghost invariant = { λ s. (s.seat.me.0.standing ≡ Seated) × (s.seat.me.0.number ≡ 1) × AreLanes s.seat.me.0 (length s.seat.me.1) s.lanes.items
+    ghost invariant = { λ s. (s.seat.me.0.standing ≡ Seated) × (s.seat.me.0.number ≡ 1)
+        × AreLanes s.seat.me.0 (length s.seat.me.1) s.lanes.items
         × (length s.shelves.items ≡ s.seat.me.0.geometry.recv_parts) × (s.round ≡ s.seat.me.0.recv.round) };
 }
 

@@ -35,6 +35,7 @@ pub(crate) fn lay_lanes(alloc: Global, tables: &Tables) -> Result<Vec<Lane>, All
     ensures { IfOk result (λ lanes. lanes.items ≡ first_lanes tables.now) }
 {
     let parts = tables.geometry().recv_parts();
+    // The tables' limits, for the proof.
     let _cells = tables.cells();
     let mut lanes = Vec::with_capacity(alloc, parts as usize)?;
     for q in 0..parts {
