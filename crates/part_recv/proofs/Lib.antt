@@ -1,0 +1,4 @@
+pub mod Pieces
+pub mod Masks
+pub mod Walking
+pub mod News
