@@ -1,0 +1,206 @@
+//! The receive end.
+
+ghost use Rattle.std.specs.Prelude.{◌≡◌, ◌<◌, ◌≤◌, ◌%◌, ◌^◌, [], true, false, length, bit_or, IfOk, MatchResult, MatchOption};
+ghost use Rattle.part_geometry.specs.declared.TheConstants.{LAST_ROUND};
+ghost use Rattle.slot_rows.specs.Lanes.{HasFlags};
+ghost use Rattle.pair_rule.specs.First.{note, watcher, with_watcher, with_watcher_back};
+ghost use Rattle.pair_rule.specs.Views.{told};
+ghost use Rattle.pair_rule.specs.Seats.{IsOf, RecvHeld};
+ghost use Rattle.part_recv.specs.Hearing.{Hears};
+ghost use Rattle.part_recv.specs.Receiving.{IsAtRest, IsSide, end_of, is_active, start_answer, after_start, test_answer, after_test};
+ghost use Rattle.part_recv.specs.Taking.{IsEndLook, IsOut, IsRefused, LookedAll, MayLook, Takes, gave_back};
+
+use crate::answers::{EndLook, TakeRefusal};
+use crate::arrival::Arrival;
+use crate::looking::{Missed, look_over};
+use crate::rounds::open_round;
+use crate::watcher::Watcher;
+use pair_rule::{Content, Note, Pair, RecvSeat};
+use part_geometry::{RecvTest, StartFault};
+use std::marker::Model;
+
+/// The last round of a side.
+const LAST_ROUND: u32 = 2_147_483_647;
+
+/// The receive side of a running pair between two calls: it is active in its round, or inactive. It alone starts the rounds of the
+/// receive side, takes partitions, gives them back and releases rounds. Contracts see its table, what it knows, and of each
+/// partition whether it was taken in its round and is out.
+pub struct RecvEnd<C: Content> {
+    seat: RecvSeat<C>,
+    active: bool,
+    watchers: u32,
+}
+
+impl<C: Content> Model for RecvEnd<C> {
+    ghost use Rattle.part_recv.specs.Receiving.{End, IsEnd, end_of};
+
+    ghost Value = { End };
+
+    ghost view = { λ e. end_of e.seat };
+
+    ghost invariant = { λ e. IsEnd e.active e.watchers e.seat };
+}
+
+impl<C: Content> RecvEnd<C> {
+    /// The end that a seat makes. The seat's side is inactive, no watcher of it is out, and it has the shelf of each partition, as
+    /// `Pair::create` gives it and `into_seat` gives it back.
+    pub fn from_seat(pair: &Pair<C>, seat: RecvSeat<C>) -> RecvEnd<C>
+        requires pair { IsOf seat.table seat.view pair.now }
+        requires rest { IsAtRest seat }
+        ensures { result ≡ end_of seat }
+    {
+        let _ = pair;
+        let _lanes = seat.lanes();
+        RecvEnd {
+            seat,
+            active: false,
+            watchers: 0,
+        }
+    }
+
+    /// The seat of an end that is inactive and has no watcher out.
+    pub fn into_seat(self) -> RecvSeat<C>
+        requires idle { is_active self.view ≡ false }
+        requires alone { self.view.recv.watchers ≡ 0 }
+        ensures seat { end_of result ≡ self }
+        ensures rest { IsAtRest result }
+    {
+        let RecvEnd {
+            seat,
+            active: _,
+            watchers: _,
+        } = self;
+        seat
+    }
+
+    /// The round that the end is in or was in last, 0 before the first.
+    pub fn round(&self) -> u32
+        ensures { result ≡ self.now.view.recv.round }
+    {
+        self.seat.round()
+    }
+
+    /// Whether the end is active in its round.
+    pub fn is_active(&self) -> bool
+        ensures value { result ≡ is_active self.now.view }
+        ensures side { IsSide result self.now.view }
+    {
+        self.active
+    }
+
+    /// How many watchers are out.
+    pub fn watchers_out(&self) -> u32
+        ensures { result ≡ self.now.view.recv.watchers }
+    {
+        self.watchers
+    }
+
+    /// A watcher, which has seen what the end has seen. The end counts it until it rejoins; a pair is closed only when all have.
+    pub fn watcher(&mut self, pair: &Pair<C>) -> Watcher<C>
+        requires pair { IsOf self.old.table self.old.view pair.now }
+        requires room { self.old.view.recv.watchers < u32.MAX }
+        ensures end { self.new ≡ record self.old { view = with_watcher self.old.view } }
+        ensures watcher { result ≡ record { table = self.old.table; view = watcher self.old.view } }
+    {
+        self.watchers += 1;
+        Watcher::of(pair.split_watcher(&mut self.seat))
+    }
+
+    /// A watcher of this pair rejoins the end, which has then seen what both have seen; then the end looks at claim word 0.
+    pub fn rejoin(&mut self, pair: &Pair<C>, watcher: Watcher<C>)
+        requires pair { IsOf self.old.table self.old.view pair.now }
+        requires same { watcher.table ≡ self.old.table }
+        ensures told { Hears (with_watcher_back self.old.view watcher.view) self.new.view }
+        ensures rest { self.new ≡ record self.old { view = self.new.view } }
+    {
+        self.watchers = self.watchers.saturating_sub(1);
+        pair.join_watcher(&mut self.seat, watcher.into_seat());
+    }
+
+    /// A note of what the end has seen.
+    pub fn note(&mut self, pair: &Pair<C>) -> Note<C>
+        requires pair { IsOf self.old.table self.old.view pair.now }
+        ensures end { self.new ≡ self.old }
+        ensures note { result ≡ record { table = self.old.table; view = note self.old.view } }
+    {
+        pair.note_of_recv(&mut self.seat)
+    }
+
+    /// The end is told what the giver of a note had seen, and has then seen what both had; then it looks at claim word 0.
+    pub fn learn(&mut self, pair: &Pair<C>, note: Note<C>)
+        requires pair { IsOf self.old.table self.old.view pair.now }
+        requires same { note.table ≡ self.old.table }
+        ensures told { Hears (told self.old.view note.view) self.new.view }
+        ensures rest { self.new ≡ record self.old { view = self.new.view } }
+    {
+        pair.learn_recv(&mut self.seat, note);
+    }
+
+    /// The round after this one.
+    fn next_round(&self) -> Result<u32, StartFault>
+        ensures { result ≡ start_answer self.now.view }
+    {
+        let round = self.seat.round();
+        if self.active {
+            return Err(StartFault::AlreadyActive { round });
+        }
+        if round == LAST_ROUND {
+            return Err(StartFault::RoundsSpent);
+        }
+        Ok(round + 1)
+    }
+
+    /// Starts the next round (`MPI_Start`, MPI 4.0, 3.9), and answers its number: no partition is taken in it. Refused while the end
+    /// is active, and after the last round; nothing changes then. It doesn't depend on the sender.
+    pub fn start(&mut self, pair: &Pair<C>) -> Result<u32, StartFault>
+        requires pair { IsOf self.old.table self.old.view pair.now }
+        ensures answer { result ≡ start_answer self.old.view }
+        ensures end { self.new ≡ after_start self.old }
+    {
+        let round = self.next_round()?;
+        open_round(pair, &mut self.seat, round);
+        self.active = true;
+        Ok(round)
+    }
+
+    /// Whether receive partition `q` has arrived in the end's round (`MPI_Parrived`, MPI 4.0, 4.2.2): looks at the pieces over it in
+    /// order, up to the first that isn't full. A piece that the end has seen full in its round is never the answer of `NotYet`.
+    pub fn parrived(&mut self, pair: &Pair<C>, q: u32) -> EndLook
+        requires pair { IsOf self.old.table self.old.view pair.now }
+        ensures { IsEndLook q result self.old self.new }
+    {
+        if !self.active {
+            return EndLook::Idle;
+        }
+        if q >= pair.geometry().recv_parts() {
+            return EndLook::BadPartition;
+        }
+        let Some(missed) = look_over(pair, &mut self.seat, self.seat.round(), q) else {
+            return EndLook::Arrived;
+        };
+        let Missed { piece, shown } = missed;
+        EndLook::NotYet { piece, shown }
+    }
+
+    /// The first cause against a take of partition `q`; the pieces over it are looked at last.
+    fn refuse_take(&mut self, pair: &Pair<C>, q: u32) -> Result<(), TakeRefusal>
+        requires pair { IsOf self.old.table self.old.view pair.now }
+        ensures { MatchResult result (λ _. MayLook q self.old × HasFlags false false q self.old.lanes × LookedAll q self.old self.new) (λ refusal. IsRefused q refusal self.old self.new) }
+    {
+        if !self.active {
+            return Err(TakeRefusal::Idle);
+        }
+        if q >= pair.geometry().recv_parts() {
+            return Err(TakeRefusal::BadPartition);
+        }
+        let round = self.seat.round();
+        if self.seat.lanes()[q as usize].taken {
+            return Err(TakeRefusal::AlreadyTaken { round });
+        }
+        let Some(missed) = look_over(pair, &mut self.seat, round, q) else {
+            return Ok(());
+        };
+        let Missed { piece, shown } = missed;
+        Err(TakeRefusal::NotYet { piece, shown })
+    }
+}
