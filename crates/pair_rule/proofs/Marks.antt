@@ -1,7 +1,7 @@
 -- Marks in a list: that one stands in it, and how often its round and partition do.
-use Rattle.std.proofs.Common.{◌≡◌, ◌≢◌, ◌⊎◌, inl, inr, ⊎_elim, ℕ, zero, suc, ◌+◌, ◌<◌, ◌≤◌, Bool, true, false, ◌==◌, ◌&&◌, List, [], ◌∷◌, ◌++◌, length, Contains, refl, sym, ap, ◌∙◌, subst, arith}
+use Rattle.std.proofs.Common.{◌≡◌, ◌⊎◌, inl, inr, ⊎_elim, ℕ, zero, suc, ◌≤◌, Bool, true, false, ◌==◌, ◌&&◌, List, [], ◌∷◌, ◌++◌, Contains, refl, ap, ◌∙◌, arith}
 use Rattle.std.specs.Prelude.{if◌then◌else◌}
-use Rattle.std.proofs.lemmas.Bool.{cases_eq, eq-eqb, eqb-true}
+use Rattle.std.proofs.lemmas.Bool.{eq-eqb, eqb-true}
 use Rattle.pair_core.specs.Core.{is_mark, times}
 use Rattle.pair_core.specs.declared.view.Mark.{Mark}
 
@@ -57,5 +57,5 @@ module _ {A : Type 0} where
   in_times k p (x ∷ xs) h = ⊎_elim
       (λ (e : is_mark k p x ≡ true). let both = both_true (x.round == k) (x.partition == p) e in (x, in_first x xs, eqb-true x.round k both.0, eqb-true x.partition p both.1))
       (λ (e : is_mark k p x ≡ false). let none = none_if (is_mark k p x) e in
-        let r = in_times k p xs (omega (arith, none)) in (r.0, in_rest x r.0 xs r.1, r.2, r.3))
+      let r = in_times k p xs (omega (arith, none)) in (r.0, in_rest x r.0 xs r.1, r.2, r.3))
       (cases (is_mark k p x))

@@ -1,5 +1,5 @@
 -- Views as they are made, and how two become one.
-use Rattle.std.specs.Prelude.{◌≡◌, ℕ, ◌+◌, ◌-◌, ◌*◌, ◌%◌, Bool, true, false, if◌then◌else◌, nat_lt, List, [], ◌++◌, map, replicate, Option, Some, None}
+use Rattle.std.specs.Prelude.{ℕ, ◌+◌, ◌-◌, ◌*◌, ◌%◌, true, false, if◌then◌else◌, nat_lt, List, [], ◌++◌, map, replicate, Option, Some, None}
 use Rattle.std.specs.List.{range_with_len}
 use Rattle.part_geometry.specs.Shape.{Shape}
 use Rattle.part_geometry.specs.Cells.{cells}
@@ -8,8 +8,6 @@ use Rattle.gate_word.specs.Words.{word_of}
 use Rattle.pair_core.specs.Names.{claim_words, take_words}
 use Rattle.pair_core.specs.Moves.{part_mask, first_state}
 use Rattle.pair_core.specs.State.{word_count}
-use Rattle.pair_core.specs.declared.view.SendSide.{SendSide}
-use Rattle.pair_core.specs.declared.view.RecvSide.{RecvSide}
 use Rattle.pair_rule.specs.Buf.{Buf, buf}
 use Rattle.pair_rule.specs.Rule.{cell_length}
 use Rattle.pair_rule.specs.Views.{told}

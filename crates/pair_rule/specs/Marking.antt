@@ -6,7 +6,7 @@ use Rattle.part_geometry.specs.Shape.{Shape}
 use Rattle.part_geometry.specs.Pieces.{first_part}
 use Rattle.atomic_table.specs.Table.{Step}
 use Rattle.part_tables.specs.Parts.{first_sent, first_shared, after_shared}
-use Rattle.pair_core.specs.Names.{Claim}
+use Rattle.pair_core.specs.Names.{Claim, Piece}
 use Rattle.pair_core.specs.Reading.{laid}
 use Rattle.pair_core.specs.Steps.{mark}
 use Rattle.pair_core.specs.Moves.{MayLay}
@@ -85,11 +85,13 @@ tries p b st me found me' =
     × (found ≢ st.first → me' ≡ (view.saw (Claim (p / 32)) found me.0, me.1))
     × IsLater st.first found
 
--- what the lay tells: it found the piece's word in the round of the claim, and without the partition
+-- what the lay tells: it found the piece's word in the round of the claim, and without the partition; it is the one
+-- that the seat has last seen, or later
 abbrev pub lays : ℕ → ℕ → Step (Option Buf) → Seat → ℕ → Seat → Type 0
 lays p i st me found me' = (x : Pending) → me.0.pending ≡ Some x
     → (me' ≡ (view.laid i x (with_part me.0.geometry i p found) me.0, drop (shared_count me.0.geometry p i) me.1))
     × (round_in found ≡ x.round) × (laid me.0.geometry found i p ≡ 0)
+    × IsLater (view.seen me.0 (Piece (x.round % me.0.geometry.depth) i)) found
 
 -- the number in the seat's list of the slot of cell c at place d
 abbrev pub spot : MarkHeld → ℕ → ℕ → ℕ

@@ -100,10 +100,10 @@ pub record HasTaken (may : ℕ → ℕ → ℕ → Type 0) (q found : ℕ) (old 
   pub with : List ℕ
   pub are : AreTaken may old.view q bufs with
   pub seat : new ≡ record old {
-      view = taken_from q with found old.view;
-      lanes = flagged true true q old.lanes;
-      slots = spliced (spot old.lanes q) (own_slot old.view q) (map Some bufs) old.slots;
-    }
+    view = taken_from q with found old.view;
+    lanes = flagged true true q old.lanes;
+    slots = spliced (spot old.lanes q) (own_slot old.view q) (map Some bufs) old.slots;
+  }
 
 -- the receive seat after it gave partition q back
 abbrev pub returned : ℕ → ℕ → RecvHeld → RecvHeld

@@ -1,5 +1,5 @@
 -- The rule of the table: it shows a sound state of the core, and its buffers have the bytes of the marks.
-use Rattle.std.specs.Prelude.{◌≡◌, ◌≢◌, ◌⊎◌, ℕ, ◌+◌, ◌-◌, ◌*◌, ◌%◌, ◌<◌, ◌≤◌, Bool, true, false, List, [], ◌∷◌, length, slice_index, Contains, Option, Some, None, if◌then◌else◌}
+use Rattle.std.specs.Prelude.{◌≡◌, ◌≢◌, ◌⊎◌, ℕ, ◌+◌, ◌-◌, ◌*◌, ◌<◌, ◌≤◌, Bool, true, false, List, [], ◌∷◌, length, slice_index, Contains, Option, Some, None, if◌then◌else◌}
 use mathlib.Core.Option.{some, none}
 use mathlib.Core.Option as maybe
 use lib.ListN.{get_elem?}
@@ -16,7 +16,6 @@ use Rattle.pair_core.specs.Sound.{Sound}
 use Rattle.pair_core.specs.State.{word_count, ListsWords}
 use Rattle.pair_core.specs.Facts.{piece_word, IsKept}
 use Rattle.pair_core.specs.declared.view.Mark.{Mark}
-use Rattle.pair_core.specs.declared.view.RecvSide.{RecvSide}
 use Rattle.pair_core.specs.declared.view.Life.TheVariants.{Blank, Live}
 use Rattle.pair_rule.specs.Buf.{Buf}
 use Rattle.pair_rule.specs.declared.view.View.{View}

@@ -1,5 +1,5 @@
 -- Which step a seat may make, by its own view, and what the step tells it. A step is the core's move of that name.
-use Rattle.std.specs.Prelude.{◌≡◌, ◌≢◌, ◌⊎◌, ℕ, ◌+◌, ◌*◌, ◌/◌, ◌%◌, ◌<◌, ◌≤◌, List, [], ◌∷◌, length, Option, Some, None}
+use Rattle.std.specs.Prelude.{◌≡◌, ◌⊎◌, ℕ, ◌+◌, ◌<◌, ◌≤◌, List, length, Option, Some, None}
 use Rattle.gate_word.specs.Words.{round_in}
 use Rattle.part_geometry.specs.declared.TheConstants.{LAST_ROUND}
 use Rattle.part_geometry.specs.Shape.{Shape}
@@ -8,7 +8,7 @@ use Rattle.atomic_table.specs.Table.{Me, Step}
 use Rattle.part_tables.specs.Bytes.{cut}
 use Rattle.slot_rows.specs.Lists.{Every}
 use Rattle.pair_rule.specs.Rule.{cell_length}
-use Rattle.pair_core.specs.Names.{Name, Claim, Release, Take, Return, Piece, claim_words, take_words}
+use Rattle.pair_core.specs.Names.{Release, Take, Return, claim_words, take_words}
 use Rattle.pair_core.specs.Core.{IsMarker}
 use Rattle.pair_core.specs.Reading.{part_bit}
 use Rattle.pair_core.specs.Moves.{Move, StorePiece, StoreClaim, LoadClaim, LoadPiece, LoadRelease, ShutClaim, TryClaim, LayPiece, StoreReturn, StoreTake, TakePart, ReturnPart, StoreRelease, Split, Rise, Join, IsSendIdle, IsRecvIdle, IsRecvActive, MayShut, MayClaim, MayLay, AreSeen}

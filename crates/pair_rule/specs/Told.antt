@@ -3,7 +3,7 @@ use Rattle.std.specs.Prelude.{◌≡◌, ℕ, ◌/◌, ◌%◌, ◌<◌, List, C
 use Rattle.gate_word.specs.Words.{round_in}
 use Rattle.gate_word.specs.Order.{IsLater}
 use Rattle.pair_core.specs.Words.{bit, next}
-use Rattle.pair_core.specs.Names.{Name, Claim, Release, Take, Return, Piece, claim_words}
+use Rattle.pair_core.specs.Names.{Name, Claim, Piece, claim_words}
 use Rattle.pair_core.specs.Core.{times}
 use Rattle.pair_core.specs.Reading.{part_bit, IsFull}
 use Rattle.pair_core.specs.Moves.{IsSendActive}
@@ -21,9 +21,9 @@ HasMarks d _ w = Unit {0}
 abbrev pub IsFullStill : View → Name → ℕ → Type 0
 IsFullStill d (Piece e i) w =
     (d.number ≡ 1 → d.recv.released ≡ 0 → e ≡ d.recv.round % d.geometry.depth → IsFull d.geometry (seen d (Piece e i)) d.recv.round i
-        → IsFull d.geometry w d.recv.round i)
+    → IsFull d.geometry w d.recv.round i)
     × (d.number ≡ 0 → d.send.markers ≡ 0 → IsSendActive d.geometry d.send → e ≡ d.send.round % d.geometry.depth
-        → ((p : ℕ) → p < d.geometry.send_parts → part_bit (λ c. seen d (Claim c)) p ≡ 1) → IsFull d.geometry w d.send.round i)
+    → ((p : ℕ) → p < d.geometry.send_parts → part_bit (λ c. seen d (Claim c)) p ≡ 1) → IsFull d.geometry w d.send.round i)
 IsFullStill d _ w = Unit {0}
 
 -- each claim word, as the send side has last seen it, is open in its round

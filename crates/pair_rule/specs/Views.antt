@@ -1,17 +1,12 @@
 -- What a step makes of the view of the seat that makes it. It mirrors what the core's step makes of its state, part by part.
-use Rattle.std.specs.Prelude.{◌≡◌, ℕ, ◌+◌, ◌-◌, ◌*◌, ◌/◌, ◌%◌, ◌^◌, Bool, true, false, ◌==◌, ◌&&◌, if◌then◌else◌, nat_lt, List, [], ◌∷◌, ◌++◌, map, slice_index, slice_set, bit_or, Option, Some, None}
+use Rattle.std.specs.Prelude.{ℕ, ◌+◌, ◌*◌, ◌/◌, ◌%◌, Bool, ◌==◌, ◌&&◌, if◌then◌else◌, nat_lt, List, [], ◌∷◌, map, slice_index, slice_set, Some}
 use Rattle.std.specs.List.{range_with_len}
 use Rattle.gate_word.specs.Order.{join_of}
-use Rattle.part_geometry.specs.Shape.{Shape}
-use Rattle.part_geometry.specs.Pieces.{first_part}
 use Rattle.pair_core.specs.Words.{empty}
 use Rattle.pair_core.specs.Names.{Name, Claim, Release, Take, Return, Piece, number, claim_words, take_words}
 use Rattle.pair_core.specs.Steps.{mark, left_of}
 use Rattle.pair_core.specs.State.{word_count}
-use Rattle.pair_core.specs.declared.view.Mark.{Mark}
 use Rattle.pair_core.specs.declared.view.Pending.{Pending}
-use Rattle.pair_core.specs.declared.view.SendSide.{SendSide}
-use Rattle.pair_core.specs.declared.view.RecvSide.{RecvSide}
 use Rattle.pair_rule.specs.declared.view.View.{View}
 
 -- the last seen word of a name, and how often the seat has stepped on it

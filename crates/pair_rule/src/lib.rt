@@ -28,4 +28,5 @@ pub use looks::Seated;
 pub use pair::Pair;
 pub use rule::{Key, Ruled};
 pub use seats::{MarkSeat, Note, RecvSeat, SendSeat, Shelf, WatchSeat};
+pub use slot_rows::Lane;
 pub use view::{Standing, View};

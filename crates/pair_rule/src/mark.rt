@@ -4,7 +4,7 @@ ghost use Rattle.std.specs.Prelude.{◌≡◌, ◌≢◌, ◌<◌, ◌/◌, ◌%
 ghost use Rattle.gate_word.specs.Words.{round_in};
 ghost use Rattle.gate_word.specs.Order.{IsLater};
 ghost use Rattle.part_geometry.specs.Cells.{cells};
-ghost use Rattle.pair_core.specs.Names.{Claim};
+ghost use Rattle.pair_core.specs.Names.{Claim, Piece};
 ghost use Rattle.pair_core.specs.Reading.{laid};
 ghost use Rattle.pair_core.specs.Moves.{TryClaim};
 ghost use Rattle.pair_core.specs.declared.view.Pending.{Pending};
@@ -100,13 +100,15 @@ impl<C: Content> Pair<C> {
     }
 
     /// A marker lays its pending claim of a partition into a piece, and answers the word of the piece that it found,
-    /// which has the claim's round and lacks the partition. The buffers of the cells that both share go home. They are
-    /// the first of those that are out, and each is filled with its part of the mark's bytes.
+    /// which has the claim's round and lacks the partition; it is the word last seen, or a later one. The buffers of
+    /// the cells that both share go home. They are the first of those that are out, and each is filled with its part
+    /// of the mark's bytes.
     pub fn mark_piece(&self, seat: &mut MarkSeat<C>, round: u32, partition: u32, piece: u32) -> u64
         requires pair { IsOf seat.old.table seat.old.view self.now }
         requires filled { IsFilled round partition piece seat.old.view seat.old.first seat.old.out }
         ensures step { (x : Pending) → seat.old.view.pending ≡ Some x → seat.new ≡ laid_at partition piece x result seat.old }
         ensures found { (round_in result ≡ round) × (laid seat.old.view.geometry result piece partition ≡ 0) }
+        ensures later { IsLater (seen seat.old.view (Piece (round % seat.old.view.geometry.depth) piece)) result }
     {
         let place = self.tables.place(round);
         let (first, after) = self.tables.shared(partition as usize, piece as usize);

@@ -84,6 +84,7 @@ impl<C: Content> Pair<C> {
         ensures step { seat.new ≡ record seat.old { view = stored_return round word seat.old.view } }
     {
         self.store_return_as::<Brand>(&mut seat.seat, round, word);
+        seat.round = round;
     }
 
     /// The receive side stores a take word, empty for its round, where all return words and the take words before it

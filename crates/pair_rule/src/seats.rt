@@ -12,12 +12,13 @@ use std::marker::{Model, PhantomData};
 /// The seat of the send side, the only one that starts and ends its rounds. Contracts see its table and its view.
 pub struct SendSeat<C: Content> {
     pub(crate) seat: Place,
+    pub(crate) round: u32,
     pub(crate) content: PhantomData<C>,
 }
 
 impl<C: Content> Model for SendSeat<C> {
     ghost use Rattle.std.specs.Prelude.{◌≡◌, [], false};
-    ghost use Rattle.pair_rule.specs.Seats.{Held};
+    ghost use Rattle.pair_rule.specs.Seats.{Held, IsSendView};
     ghost use Rattle.pair_rule.specs.declared.view.Standing.TheVariants.{Seated};
 
     ghost Value = { Held };
@@ -25,7 +26,7 @@ impl<C: Content> Model for SendSeat<C> {
     ghost view = { λ s. record { table = s.seat.table_id; view = s.seat.me.0 } };
 
     ghost invariant = { λ s. (s.seat.me.0.standing ≡ Seated) × (s.seat.me.0.number ≡ 0) × (s.seat.me.1 ≡ [])
-        × (s.seat.me.0.alone ≡ false) };
+        × (s.seat.me.0.alone ≡ false) × IsSendView s.seat.me.0 × (s.round ≡ s.seat.me.0.send.round) };
 }
 
 /// The seat of a thread that marks. While a claim of it pends, slots of the claimed partition are out with it: `count` of
@@ -138,6 +139,7 @@ impl Shelf {
 /// shelf with room for the buffers of each receive partition, while the partition isn't out.
 pub struct RecvSeat<C: Content> {
     pub(crate) seat: Place,
+    pub(crate) round: u32,
     pub(crate) lanes: Vec<Lane>,
     pub(crate) shelves: Vec<Option<Shelf>>,
     pub(crate) content: PhantomData<C>,
@@ -153,7 +155,7 @@ impl<C: Content> Model for RecvSeat<C> {
     ghost view = { λ s. record { table = s.seat.table_id; view = s.seat.me.0; lanes = s.lanes.items; slots = s.seat.me.1; shelves = s.shelves.items } };
 
     ghost invariant = { λ s. (s.seat.me.0.standing ≡ Seated) × (s.seat.me.0.number ≡ 1) × AreLanes s.seat.me.0 (length s.seat.me.1) s.lanes.items
-        × (length s.shelves.items ≡ s.seat.me.0.geometry.recv_parts) };
+        × (length s.shelves.items ≡ s.seat.me.0.geometry.recv_parts) × (s.round ≡ s.seat.me.0.recv.round) };
 }
 
 /// What a seat had seen when it made the note. It is no seat, makes no step, and may be dropped.
@@ -176,14 +178,27 @@ impl<C: Content> Model for Note<C> {
 
 impl<C: Content> SendSeat<C> {
     ghost use Rattle.std.specs.Prelude.{false};
+    ghost use Rattle.pair_rule.specs.Seats.{IsSendView};
     ghost use Rattle.pair_rule.specs.declared.view.Standing.TheVariants.{Seated};
+
+    /// The send side's round, 0 before the first.
+    pub fn round(&self) -> u32
+        ensures value { result ≡ self.now.view.send.round }
+        ensures view { IsSendView self.now.view }
+    {
+        self.round
+    }
 
     /// The seat of the table alone.
     pub(crate) fn into_place(self) -> Place
         ensures place { (result.table_id ≡ self.table) × (result.me ≡ (self.view, [])) }
         ensures live { (self.view.standing ≡ Seated) × (self.view.number ≡ 0) × (self.view.alone ≡ false) }
     {
-        let SendSeat { seat, content: _ } = self;
+        let SendSeat {
+            seat,
+            round: _,
+            content: _,
+        } = self;
         seat
     }
 }
@@ -224,7 +239,25 @@ impl<C: Content> WatchSeat<C> {
 
 impl<C: Content> RecvSeat<C> {
     ghost use Rattle.pair_core.specs.Moves.{IsRecvIdle};
+    ghost use Rattle.pair_rule.specs.Seats.{AreLanes};
     ghost use Rattle.pair_rule.specs.declared.view.Standing.TheVariants.{Seated};
+
+    /// The receive side's round, 0 before the first.
+    pub fn round(&self) -> u32
+        ensures { result ≡ self.now.view.recv.round }
+    {
+        self.round
+    }
+
+    /// A lane for each receive partition: whether it was taken in the side's round, and whether its slots are out.
+    pub fn lanes(&self) -> &[Lane]
+        ensures value { result.now ≡ self.now.lanes }
+        ensures number { self.now.view.number ≡ 1 }
+        ensures kept { AreLanes self.now.view (length self.now.slots) self.now.lanes }
+        ensures shelves { length self.now.shelves ≡ self.now.view.geometry.recv_parts }
+    {
+        &self.lanes
+    }
 
     /// The seat of the table alone.
     pub(crate) fn into_place(self) -> Place
@@ -234,6 +267,7 @@ impl<C: Content> RecvSeat<C> {
     {
         let RecvSeat {
             seat,
+            round: _,
             lanes: _,
             shelves: _,
             content: _,
@@ -259,6 +293,7 @@ impl<C: Content> Drop for SendSeat<C> {
     fn drop(self) {
         let SendSeat {
             seat: _,
+            round: _,
             content: _,
         } = self;
     }
@@ -288,6 +323,7 @@ impl<C: Content> Drop for RecvSeat<C> {
     fn drop(self) {
         let RecvSeat {
             seat: _,
+            round: _,
             lanes: _,
             shelves: _,
             content: _,

@@ -12,6 +12,8 @@ mod plain;
 #[cfg(test)]
 mod requests;
 #[cfg(test)]
+mod running;
+#[cfg(test)]
 mod scripts;
 #[cfg(test)]
 mod sizes;

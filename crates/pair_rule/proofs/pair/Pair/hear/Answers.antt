@@ -1,4 +1,4 @@
-use Rattle.std.proofs.Common.{rules, ◌≡◌, ◌<◌, ◌+◌, ap, ◌∙◌, sym, arith}
+use Rattle.std.proofs.Common.{rules, ap, ◌∙◌}
 use Rattle.gate_word.proofs.Laws.{joins}
 use Rattle.pair_rule.specs.declared.view.View.{View}
 use Rattle.pair_rule.proofs.Core.{laws}

@@ -1,4 +1,4 @@
-use Rattle.std.proofs.Common.{rules, ◌≡◌, ◌<◌, ◌+◌, length, ap, ◌∙◌, sym, subst, arith}
+use Rattle.std.proofs.Common.{rules, ◌≡◌, length, ap, ◌∙◌, sym, subst}
 use Rattle.gate_word.proofs.Laws.{joins}
 use Rattle.pair_rule.proofs.Core.{laws}
 use Rattle.pair_core.specs.Names.{Claim}
@@ -22,8 +22,13 @@ invariant_of-into g c =
     let into = c.into.inside in let i = c.into.invariant in let both = with_watcher_back into.seat.me.0 c.into_place.result.me.0 in
     let me : Seat = c.load_claim_as.new.seat.me in
     let is : c.load_claim_as.new.seat.me ≡ (saw (Claim 0) c.load_claim_as.result both, into.seat.me.1) =
-      c.load_claim_as.ensures.step ∙ ap (λ (z : Seat). let y : Seat = (saw (Claim 0) c.load_claim_as.result z.0, z.1) in y) c.join_seat.ensures.2 in
-    subst (λ (z : Seat). (z.0.standing ≡ Seated) × (z.0.number ≡ 1) × AreLanes z.0 (length z.1) into.lanes.items × (length into.shelves.items ≡ z.0.geometry.recv_parts))
-    (sym is)
-    (i.0, i.1, lanes_stay both (Claim 0) c.load_claim_as.result (length into.seat.me.1) into.lanes.items (search rules) (other_claim 0)
-      (lanes_join into.seat.me.0 c.into_place.result.me.0 (length into.seat.me.1) into.lanes.items i.1 i.2), i.3)
+    c.load_claim_as.ensures.step ∙ ap (λ (z : Seat). let y : Seat = (saw (Claim 0) c.load_claim_as.result z.0, z.1) in y) c.join_seat.ensures.2 in
+    subst (λ (z : Seat). (z.0.standing ≡ Seated) × (z.0.number ≡ 1) × AreLanes z.0 (length z.1) into.lanes.items × (length into.shelves.items ≡ z.0.geometry.recv_parts) × (into.round ≡ z.0.recv.round))
+    (sym is) (
+      i.0,
+      i.1,
+      lanes_stay both (Claim 0) c.load_claim_as.result (length into.seat.me.1) into.lanes.items (search rules) (other_claim 0)
+          (lanes_join into.seat.me.0 c.into_place.result.me.0 (length into.seat.me.1) into.lanes.items i.1 i.2),
+      i.3,
+      i.4,
+    )
