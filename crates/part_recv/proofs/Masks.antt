@@ -36,11 +36,11 @@ unfolding need
 full_mask g v w k i inside full =
     let few = need_count-le g v i inside in
     in-and (2 ^ need_count g i - 1) (bits_in w) (λ j set.
-        let one = set_one (2 ^ need_count g i - 1) j set in
-        elim (cases_lt j (need_count g i)) [
-          | inl low ↦
-              let e : first_part g i + j - first_part g i ≡ j = omega arith in
-              let here : bit w j ≡ 1 = sym (ap (bit w) e) ∙ full.all (first_part g i + j) (range_touch g v i (first_part g i + j) inside (omega arith) (omega arith)) in
-              one_set (bits_in w) j (sym (bits_are w j (omega arith)) ∙ here)
-          | inr high ↦ let none = bit_at_ones_above (need_count g i) j high in absurd (omega arith)
-        ])
+    let one = set_one (2 ^ need_count g i - 1) j set in
+    elim (cases_lt j (need_count g i)) [
+      | inl low ↦
+          let e : first_part g i + j - first_part g i ≡ j = omega arith in
+          let here : bit w j ≡ 1 = sym (ap (bit w) e) ∙ full.all (first_part g i + j) (range_touch g v i (first_part g i + j) inside (omega arith) (omega arith)) in
+          one_set (bits_in w) j (sym (bits_are w j (omega arith)) ∙ here)
+      | inr high ↦ let none = bit_at_ones_above (need_count g i) j high in absurd (omega arith)
+    ])

@@ -62,7 +62,7 @@ seen_full k e i (w ∷ ws) d place few size full j low high =
           seen_past (number d.geometry (Piece e i)) e (suc i) ws (saw (Piece e i) w d) (λ m from to. λ (one : number d.geometry (Piece e i) ≡ number d.geometry (Piece e m)). omega arith)
           ∙ get_or-set_same d.seen (number d.geometry (Piece e i)) w 0 (subst (λ (z : ℕ). number d.geometry (Piece e i) < z) (sym size) (number_lt d.geometry (Piece e i) (place, omega arith))) in
           subst (λ (z : ℕ). IsFull d.geometry (get_or (looked e i (w ∷ ws) d).seen (number d.geometry (Piece e z)) 0) k z) (sym same)
-            (subst (λ (z : ℕ). IsFull d.geometry z k i) (sym here) full.0)
+          (subst (λ (z : ℕ). IsFull d.geometry z k i) (sym here) full.0)
       | inr later ↦
           seen_full k e (suc i) ws (saw (Piece e i) w d) place (omega arith) (length-set d.seen (number d.geometry (Piece e i)) w ∙ size) full.1 j (omega arith) (omega arith)
     ]
@@ -132,7 +132,7 @@ module _ {S : Type 0} (W : S → View → S) (V : S → View) (T : S → TableId
         seen_past (number g (Piece e n)) e first h.words (V from) (λ m low high. λ (both : number g (Piece e n) ≡ number g (Piece e m)). omega arith) in
         let here : IsFull g (seen (V from) (Piece e n)) (V from).recv.round n = subst (λ (z : ℕ × ℕ). IsFull g (seen (V from) (Piece z.0 n)) z.1 n) (λ j. (sym place j, same j)) full in
         subst (λ (z : ℕ). IsFull g w z n) (sym same)
-          (told.0 one active (place ∙ ap (λ (z : ℕ). z % g.depth) same) (subst (λ (z : ℕ). IsFull g z (V from).recv.round n) (sym before) here))
+        (told.0 one active (place ∙ ap (λ (z : ℕ). z % g.depth) same) (subst (λ (z : ℕ). IsFull g z (V from).recv.round n) (sym before) here))
 
     -- and it isn't
     pub walk_stops : (q : ℕ) → e ≡ place_in (V from) k → first ≡ first_piece (V from).geometry q → n < after_piece (V from).geometry q → ¬ IsFull (V from).geometry w k n

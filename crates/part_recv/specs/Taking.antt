@@ -1,5 +1,5 @@
 -- What looks, takes and returns of the receive end answer, and what the end is then.
-use Rattle.std.specs.Prelude.{◌≡◌, ℕ, ◌+◌, ◌*◌, ◌/◌, ◌%◌, ◌^◌, ◌<◌, ◌≤◌, true, false, List, length, bit_or, slice_index}
+use Rattle.std.specs.Prelude.{◌≡◌, ℕ, ◌+◌, ◌*◌, ◌/◌, ◌<◌, ◌≤◌, true, false, List, length, slice_index}
 use Rattle.std.specs.List.{flat_map}
 use mathlib.Core.Option.{some}
 use lib.ListN.{get_elem?}
@@ -11,7 +11,8 @@ use Rattle.slot_rows.specs.Lanes.{flagged, HasFlags}
 use Rattle.pair_rule.specs.Buf.{Buf}
 use Rattle.pair_rule.specs.Seats.{Room, cells_of}
 use Rattle.pair_rule.specs.Steps.{AreOf}
-use Rattle.pair_rule.specs.Views as view
+use Rattle.pair_rule.specs.Views.{seen}
+use Rattle.pair_rule.specs.Parts.{taken_from, returned_from}
 use Rattle.pair_rule.specs.declared.view.View.{View}
 use Rattle.part_recv.specs.Seeing.{SeesAll, Misses}
 use Rattle.part_recv.specs.Watching.{IsNew}
@@ -84,25 +85,19 @@ IsRefused q (NotYet i w) old new = MayLook q old × HasFlags false false q old.l
 
 -- the end with partition q taken in its round with these bytes, and with q given back
 abbrev pub took : ℕ → List ℕ → End → End
-took q b s = record s {
-  view = view.taken q b (bit_or (view.seen s.view (Take (q / 32))) (2 ^ (q % 32))) s.view;
-  lanes = flagged true true q s.lanes;
-}
+took q b s = record s { view = taken_from q b (seen s.view (Take (q / 32))) s.view; lanes = flagged true true q s.lanes }
 
 abbrev pub gave_back : ℕ → End → End
-gave_back q s = record s {
-  view = view.given_back q (bit_or (view.seen s.view (Return (q / 32))) (2 ^ (q % 32))) s.view;
-  lanes = flagged true false q s.lanes;
-}
+gave_back q s = record s { view = returned_from q (seen s.view (Return (q / 32))) s.view; lanes = flagged true false q s.lanes }
 
 -- Partition q was taken: all its pieces were seen full in the end's round, and it wasn't taken before. The take has the bytes
 -- of the arrival, as many as the partition has, each allowed at its place.
 pub record Takes (may : ℕ → ℕ → ℕ → Type 0) (q : ℕ) (a : Arrived) (old new : End) : Type 0 where
   pub active : MayLook q old
   pub free : HasFlags false false q old.lanes
-  pub seen : End
-  pub looks : LookedAll q old seen
+  pub at : End
+  pub looks : LookedAll q old at
   pub arrival : a ≡ record { geometry = old.view.geometry; round = old.view.recv.round; partition = q; bytes = a.bytes }
-  pub end : new ≡ took q a.bytes seen
+  pub end : new ≡ took q a.bytes at
   pub long : length a.bytes ≡ old.view.geometry.recv_bytes
   pub allowed : (j : ℕ) → j < length a.bytes → may old.view.recv.round (q * old.view.geometry.recv_bytes + j) (slice_index a.bytes j)

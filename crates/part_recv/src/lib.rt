@@ -6,9 +6,13 @@ mod answers;
 mod arrival;
 mod laws;
 mod looking;
+mod parts;
+mod recv_end;
+mod rounds;
 mod watcher;
 
 pub use answers::{EndLook, Look, TakeRefusal};
 pub use arrival::Arrival;
 pub use laws::piece_laws;
+pub use recv_end::RecvEnd;
 pub use watcher::Watcher;

@@ -1,7 +1,6 @@
 //! The receive end.
 
 ghost use Rattle.std.specs.Prelude.{◌≡◌, ◌<◌, ◌≤◌, ◌%◌, ◌^◌, [], true, false, length, bit_or, IfOk, MatchResult, MatchOption};
-ghost use Rattle.part_geometry.specs.declared.TheConstants.{LAST_ROUND};
 ghost use Rattle.slot_rows.specs.Lanes.{HasFlags};
 ghost use Rattle.pair_rule.specs.First.{note, watcher, with_watcher, with_watcher_back};
 ghost use Rattle.pair_rule.specs.Views.{told};
@@ -13,14 +12,12 @@ ghost use Rattle.part_recv.specs.Taking.{IsEndLook, IsOut, IsRefused, LookedAll,
 use crate::answers::{EndLook, TakeRefusal};
 use crate::arrival::Arrival;
 use crate::looking::{Missed, look_over};
+use crate::parts::{return_part, take_part};
 use crate::rounds::open_round;
 use crate::watcher::Watcher;
 use pair_rule::{Content, Note, Pair, RecvSeat};
-use part_geometry::{RecvTest, StartFault};
+use part_geometry::{LAST_ROUND, RecvTest, StartFault};
 use std::marker::Model;
-
-/// The last round of a side.
-const LAST_ROUND: u32 = 2_147_483_647;
 
 /// The receive side of a running pair between two calls: it is active in its round, or inactive. It alone starts the rounds of the
 /// receive side, takes partitions, gives them back and releases rounds. Contracts see its table, what it knows, and of each
@@ -175,7 +172,8 @@ impl<C: Content> RecvEnd<C> {
         if q >= pair.geometry().recv_parts() {
             return EndLook::BadPartition;
         }
-        let Some(missed) = look_over(pair, &mut self.seat, self.seat.round(), q) else {
+        let round = self.seat.round();
+        let Some(missed) = look_over(pair, &mut self.seat, round, q) else {
             return EndLook::Arrived;
         };
         let Missed { piece, shown } = missed;
@@ -202,5 +200,64 @@ impl<C: Content> RecvEnd<C> {
         };
         let Missed { piece, shown } = missed;
         Err(TakeRefusal::NotYet { piece, shown })
+    }
+
+    /// Takes receive partition `q` of the end's round: the buffers with its bytes go over to the caller, which are those that were
+    /// marked in this round. The pieces over the partition are looked at first, in order. Refused while the end is inactive, where it
+    /// has no such partition, where the partition was taken in this round, and where a piece over it isn't full; no partition is
+    /// taken then. It takes no memory.
+    pub fn take(&mut self, pair: &Pair<C>, q: u32) -> Result<Arrival<C>, TakeRefusal>
+        requires pair { IsOf self.old.table self.old.view pair.now }
+        ensures answer { MatchResult result (λ taken. Takes (C.may pair.now.key.tag) q taken self.old self.new) (λ refusal. IsRefused q refusal self.old self.new) }
+        ensures out { IfOk result (λ taken. IsOut taken self.new) }
+    {
+        self.refuse_take(pair, q)?;
+        let geometry = pair.geometry();
+        let round = self.seat.round();
+        let shelf = take_part(pair, &mut self.seat, q);
+        Ok(Arrival::of(geometry, round, q, shelf))
+    }
+
+    /// Gives a partition back that was taken from this end in its round. Its buffers serve a later round.
+    pub fn give_back(&mut self, pair: &Pair<C>, arrival: Arrival<C>)
+        requires pair { IsOf self.old.table self.old.view pair.now }
+        requires out { IsOut arrival self.old }
+        ensures { self.new ≡ gave_back arrival.partition self.old }
+    {
+        let q = arrival.partition();
+        return_part(pair, &mut self.seat, q, arrival.into_shelf());
+    }
+
+    /// Tests the receive (`MPI_Test`, MPI 4.0, 4.2.2). Where all partitions were taken and given back, the round is released and the
+    /// end is inactive; with every other answer nothing changes.
+    pub fn test(&mut self, pair: &Pair<C>) -> RecvTest
+        requires pair { IsOf self.old.table self.old.view pair.now }
+        ensures answer { result ≡ test_answer self.old }
+        ensures end { self.new ≡ after_test self.old }
+    {
+        if !self.active {
+            return RecvTest::Idle;
+        }
+        let lanes = self.seat.lanes();
+        if let Some(q) = lanes.iter().position(|lane| !lane.taken) {
+            return RecvTest::Untaken { q: q as u32 };
+        }
+        if let Some(q) = lanes.iter().position(|lane| lane.out) {
+            return RecvTest::Out { q: q as u32 };
+        }
+        let round = self.seat.round();
+        pair.store_release(&mut self.seat, round);
+        self.active = false;
+        RecvTest::Done
+    }
+}
+
+impl<C: Content> Drop for RecvEnd<C> {
+    fn drop(self) {
+        let RecvEnd {
+            seat: _,
+            active: _,
+            watchers: _,
+        } = self;
     }
 }

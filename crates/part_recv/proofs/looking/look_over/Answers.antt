@@ -36,7 +36,7 @@ loop-piece-preserved g c =
     let full : IsFull (g.S.Seated.view_of c.args.seat.now).geometry c.load_piece-shown.result c.args.round c.loop-piece.piece =
     subst (λ (z : Shape). IsFull z c.load_piece-shown.result c.args.round c.loop-piece.piece) (c.tables-tables.ensures ∙ sym c.requires.pair.1) (c.is_full.ensures.0 c.if-not-is_full.false) in
     walk_goes g.S.Seated.with_view g.S.Seated.view_of g.S.Seated.table_of laws.has_view laws.has_table laws.has_last c.args.round c.place-place.result c.pieces_over-first.result.0
-      c.loop-piece.piece c.load_piece-shown.result c.args.seat.now c.loop-piece.seat c.load_piece-shown.new.seat c.loop-piece.invariant c.load_piece-shown.ensures.step c.load_piece-shown.ensures.told.later full
+    c.loop-piece.piece c.load_piece-shown.result c.args.seat.now c.loop-piece.seat c.load_piece-shown.new.seat c.loop-piece.invariant c.load_piece-shown.ensures.step c.load_piece-shown.ensures.told.later full
 
 pub returns-then-not-is_full : goal.returns-then-not-is_full
 returns-then-not-is_full g c =
