@@ -76,11 +76,11 @@ abbrev pub opened : View → View
 opened d = let n = take_words d.geometry in takes_stored n (returns_stored (d.recv.round + 1) n d)
 
 -- no partition is taken, and none is out
-abbrev pub untaken : List Lane → List Lane
-untaken ls = map (λ (l : Lane). record l { taken = false; out = false }) ls
+abbrev pub all_untaken : List Lane → List Lane
+all_untaken ls = map (λ (l : Lane). record l { taken = false; out = false }) ls
 
 abbrev pub started : End → End
-started s = record s { view = opened s.view; lanes = untaken s.lanes }
+started s = record s { view = opened s.view; lanes = all_untaken s.lanes }
 
 abbrev pub after_start : End → End
 after_start s = if is_ok (start_answer s.view) then started s else s

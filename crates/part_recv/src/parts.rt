@@ -42,6 +42,7 @@ pub(crate) fn return_part<C: Content>(
     requires of { AreOf seat.old.view.geometry seat.old.view.recv.round (first_received seat.old.view.geometry q) shelf.bufs }
     ensures { seat.new ≡ part_returned q shelf seat.old }
 {
+    let _lanes = seat.lanes();
     let place = pair.tables().place(seat.round()) as u32;
     pair.put_all(seat, place, q, &mut shelf);
     seat.put_shelf(q, shelf);

@@ -4,7 +4,7 @@ ghost use Rattle.std.specs.Prelude.{◌≡◌, ◌+◌, ◌≤◌};
 ghost use Rattle.part_geometry.specs.declared.TheConstants.{LAST_ROUND};
 ghost use Rattle.pair_core.specs.Moves.{IsRecvIdle};
 ghost use Rattle.pair_rule.specs.Seats.{IsOf};
-ghost use Rattle.part_recv.specs.Receiving.{opened, untaken};
+ghost use Rattle.part_recv.specs.Receiving.{opened, all_untaken};
 ghost use Rattle.part_recv.specs.Parting.{AreHome};
 
 use pair_rule::{Content, Pair, RecvSeat};
@@ -14,15 +14,15 @@ pub(crate) fn open_round<C: Content>(pair: &Pair<C>, seat: &mut RecvSeat<C>, rou
     requires pair { IsOf seat.old.table seat.old.view pair.now }
     requires idle { IsRecvIdle seat.old.view.recv }
     requires round { (round ≡ seat.old.view.recv.round + 1) × (round ≤ LAST_ROUND) }
-    ensures seat { seat.new ≡ record seat.old { view = opened seat.old.view; lanes = untaken seat.old.lanes } }
+    ensures seat { seat.new ≡ record seat.old { view = opened seat.old.view; lanes = all_untaken seat.old.lanes } }
     ensures home { AreHome seat.old.lanes }
 {
     let _lanes = seat.lanes();
     let words = pair.geometry().recv_parts().div_ceil(32);
-    for word in 0..words {
+    'returns: for word in 0..words {
         pair.store_return(seat, round, word);
     }
-    for word in 0..words {
+    'takes: for word in 0..words {
         pair.store_take(seat, round, word);
     }
 }
