@@ -66,10 +66,10 @@ module _ (may : ℕ → ℕ → ℕ → Type 0) (q e found : ℕ) (s t : RecvHel
 
   pub lent_seat : (shelf : Room) (n : RecvHeld) → n ≡ with_values e q (replicate (cells_of t.view.geometry q) None) t → HasOut e q (map Some shelf.bufs) t → found ≡ seen s.view (Take (q / 32))
       → n ≡ record s {
-      view = taken_from q (bytes_in shelf.bufs) (seen s.view (Take (q / 32))) s.view;
-      lanes = flagged true true q s.lanes;
-      slots = spliced (spot s.lanes q) (own_slot s.view q) (replicate (cells_of s.view.geometry q) None) s.slots;
-    }
+        view = taken_from q (bytes_in shelf.bufs) (seen s.view (Take (q / 32))) s.view;
+        lanes = flagged true true q s.lanes;
+        slots = spliced (spot s.lanes q) (own_slot s.view q) (replicate (cells_of s.view.geometry q) None) s.slots;
+      }
   lent_seat shelf n is out word =
       let with : h.with ≡ bytes_in shelf.bufs = sym h.are.bytes ∙ ap bytes_in (same_bufs shelf.bufs out) in
       is ∙ (ap (λ (z : RecvHeld). with_values e q (replicate (cells_of z.view.geometry q) None) z) h.seat

@@ -5,3 +5,6 @@ pub mod News
 pub mod Lending
 pub mod Opening
 pub mod Bytes
+pub mod Ending
+pub mod Finding
+pub mod Arriving

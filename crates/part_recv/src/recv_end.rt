@@ -1,13 +1,17 @@
 //! The receive end.
 
-ghost use Rattle.std.specs.Prelude.{◌≡◌, ◌<◌, ◌≤◌, ◌%◌, ◌^◌, [], true, false, length, bit_or, IfOk, MatchResult, MatchOption};
+ghost use Rattle.std.specs.Prelude.{◌≡◌, ◌<◌, ◌≤◌, ◌%◌, ◌^◌, [], true, false, length, not, position, IfOk, MatchResult, MatchOption};
+ghost use Rattle.slot_rows.specs.declared.lane.Lane.{Lane};
 ghost use Rattle.slot_rows.specs.Lanes.{HasFlags};
+ghost use mathlib.Core.Option.{some};
+ghost use lib.ListN.{get_elem?};
+ghost use Rattle.part_geometry.specs.declared.TheConstants.{LAST_ROUND};
 ghost use Rattle.pair_rule.specs.First.{note, watcher, with_watcher, with_watcher_back};
 ghost use Rattle.pair_rule.specs.Views.{told};
 ghost use Rattle.pair_rule.specs.Seats.{IsOf, RecvHeld};
 ghost use Rattle.part_recv.specs.Hearing.{Hears};
 ghost use Rattle.part_recv.specs.Receiving.{IsAtRest, IsSide, end_of, is_active, start_answer, after_start, test_answer, after_test};
-ghost use Rattle.part_recv.specs.Taking.{IsEndLook, IsOut, IsRefused, LookedAll, MayLook, Takes, gave_back};
+ghost use Rattle.part_recv.specs.Taking.{IsEndLook, IsOut, IsRefused, Looked, LookedAll, MayLook, Takes, gave_back};
 
 use crate::answers::{EndLook, TakeRefusal};
 use crate::arrival::Arrival;
@@ -17,6 +21,7 @@ use crate::rounds::open_round;
 use crate::watcher::Watcher;
 use pair_rule::{Content, Note, Pair, RecvSeat};
 use part_geometry::{LAST_ROUND, RecvTest, StartFault};
+use slot_rows::Lane;
 use std::marker::Model;
 
 /// The receive side of a running pair between two calls: it is active in its round, or inactive. It alone starts the rounds of the
@@ -36,6 +41,28 @@ impl<C: Content> Model for RecvEnd<C> {
     ghost view = { λ e. end_of e.seat };
 
     ghost invariant = { λ e. IsEnd e.active e.watchers e.seat };
+}
+
+/// The least partition that isn't taken.
+fn first_untaken(lanes: &[Lane]) -> Option<usize>
+    ensures { result ≡ position (λ (l : Lane). not l.taken) lanes.now }
+{
+    lanes.iter().position(|lane| !lane.taken)
+}
+
+/// Whether partition `q` was taken.
+fn is_taken(lanes: &[Lane], q: usize) -> bool
+    requires { q < length lanes.now }
+    ensures { (l : Lane) × (get_elem? lanes.now q ≡ some l) × (l.taken ≡ result) }
+{
+    lanes[q].taken
+}
+
+/// The least partition that is out.
+fn first_out(lanes: &[Lane]) -> Option<usize>
+    ensures { result ≡ position (λ (l : Lane). l.out) lanes.now }
+{
+    lanes.iter().position(|lane| lane.out)
 }
 
 impl<C: Content> RecvEnd<C> {
@@ -67,6 +94,7 @@ impl<C: Content> RecvEnd<C> {
             active: _,
             watchers: _,
         } = self;
+        let _lanes = seat.lanes();
         seat
     }
 
@@ -135,8 +163,10 @@ impl<C: Content> RecvEnd<C> {
 
     /// The round after this one.
     fn next_round(&self) -> Result<u32, StartFault>
-        ensures { result ≡ start_answer self.now.view }
+        ensures answer { result ≡ start_answer self.now.view }
+        ensures limit { IfOk result (λ k. k ≤ LAST_ROUND) }
     {
+        let _lanes = self.seat.lanes();
         let round = self.seat.round();
         if self.active {
             return Err(StartFault::AlreadyActive { round });
@@ -160,6 +190,17 @@ impl<C: Content> RecvEnd<C> {
         Ok(round)
     }
 
+    /// Looks at the pieces over partition `q` in order, up to the first that isn't full in the end's round.
+    fn look(&mut self, pair: &Pair<C>, q: u32) -> Option<Missed>
+        requires pair { IsOf self.old.table self.old.view pair.now }
+        requires part { MayLook q self.old }
+        ensures { MatchOption result (LookedAll q self.old self.new) (λ missed. Looked q missed.piece missed.shown self.old self.new) }
+    {
+        let _lanes = self.seat.lanes();
+        let round = self.seat.round();
+        look_over(pair, &mut self.seat, round, q)
+    }
+
     /// Whether receive partition `q` has arrived in the end's round (`MPI_Parrived`, MPI 4.0, 4.2.2): looks at the pieces over it in
     /// order, up to the first that isn't full. A piece that the end has seen full in its round is never the answer of `NotYet`.
     pub fn parrived(&mut self, pair: &Pair<C>, q: u32) -> EndLook
@@ -172,8 +213,7 @@ impl<C: Content> RecvEnd<C> {
         if q >= pair.geometry().recv_parts() {
             return EndLook::BadPartition;
         }
-        let round = self.seat.round();
-        let Some(missed) = look_over(pair, &mut self.seat, round, q) else {
+        let Some(missed) = self.look(pair, q) else {
             return EndLook::Arrived;
         };
         let Missed { piece, shown } = missed;
@@ -192,10 +232,10 @@ impl<C: Content> RecvEnd<C> {
             return Err(TakeRefusal::BadPartition);
         }
         let round = self.seat.round();
-        if self.seat.lanes()[q as usize].taken {
+        if is_taken(self.seat.lanes(), q as usize) {
             return Err(TakeRefusal::AlreadyTaken { round });
         }
-        let Some(missed) = look_over(pair, &mut self.seat, round, q) else {
+        let Some(missed) = self.look(pair, q) else {
             return Ok(());
         };
         let Missed { piece, shown } = missed;
@@ -212,6 +252,7 @@ impl<C: Content> RecvEnd<C> {
         ensures out { IfOk result (λ taken. IsOut taken self.new) }
     {
         self.refuse_take(pair, q)?;
+        let _lanes = self.seat.lanes();
         let geometry = pair.geometry();
         let round = self.seat.round();
         let shelf = take_part(pair, &mut self.seat, q);
@@ -225,6 +266,7 @@ impl<C: Content> RecvEnd<C> {
         ensures { self.new ≡ gave_back arrival.partition self.old }
     {
         let q = arrival.partition();
+        let _lanes = self.seat.lanes();
         return_part(pair, &mut self.seat, q, arrival.into_shelf());
     }
 
@@ -238,11 +280,12 @@ impl<C: Content> RecvEnd<C> {
         if !self.active {
             return RecvTest::Idle;
         }
+        let _geometry = pair.geometry();
         let lanes = self.seat.lanes();
-        if let Some(q) = lanes.iter().position(|lane| !lane.taken) {
+        if let Some(q) = first_untaken(lanes) {
             return RecvTest::Untaken { q: q as u32 };
         }
-        if let Some(q) = lanes.iter().position(|lane| lane.out) {
+        if let Some(q) = first_out(lanes) {
             return RecvTest::Out { q: q as u32 };
         }
         let round = self.seat.round();

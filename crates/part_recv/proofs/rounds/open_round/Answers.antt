@@ -2,11 +2,12 @@ use Rattle.std.proofs.Common.{◌≡◌, ℕ, suc, ◌+◌, ◌*◌, ◌/◌, �
 use Rattle.part_geometry.specs.Shape.{Shape}
 use Rattle.pair_core.specs.Names.{take_words}
 use Rattle.pair_core.specs.Moves.{StoreReturn, StoreTake}
+use Rattle.pair_core.specs.declared.view.RecvSide.{RecvSide}
 use Rattle.pair_rule.specs.Seats.{RecvHeld}
 use Rattle.pair_rule.specs.Steps.{MayMake}
 use Rattle.pair_rule.specs.Parts.{renewed}
 use Rattle.part_recv.specs.Receiving.{returns_stored, takes_stored}
-use Rattle.part_recv.proofs.Opening.{returns_geometry, may_return, opened_geometry, may_take, lanes_more, lanes_none, lanes_all}
+use Rattle.part_recv.proofs.Opening.{returns_geometry, may_return, opened_geometry, opened_recv, may_take, lanes_more, lanes_none, lanes_all}
 use Rattle.part_recv.proofs.rounds.open_round.Goals as goal
 
 pub store_return-requires-clause-pair : goal.store_return-requires-clause-pair
@@ -19,7 +20,7 @@ store_return-requires-clause-allowed g c =
     let parts = ap (λ (z : Shape). z.recv_parts) (c.geometry.ensures.value ∙ sym c.requires.pair.1) in
     let low : c.returns.word < take_words c.args.seat.now.view.geometry = let a = c.recv_parts.ensures.value in let b = c.div_ceil-words.ensures in let d = c.returns-test.true in omega arith in
     subst (λ (z : RecvHeld). MayMake z.view (StoreReturn c.args.round c.returns.word)) (sym c.returns.invariant)
-      (may_return c.args.round c.returns.word c.args.seat.now.view c.lanes-lanes.ensures.number c.requires.idle c.requires.round.0 c.requires.round.1 low)
+    (may_return c.args.round c.returns.word c.args.seat.now.view c.lanes-lanes.ensures.number c.requires.idle c.requires.round.0 c.requires.round.1 low)
 
 pub takes-init : goal.takes-init
 takes-init g c =
@@ -31,9 +32,10 @@ takes-init g c =
 
 pub store_take-requires-clause-pair : goal.store_take-requires-clause-pair
 store_take-requires-clause-pair g c =
-    let h = c.takes.invariant in
-    (ap (λ (z : RecvHeld). z.table) h ∙ c.requires.pair.0,
-    ap (λ (z : RecvHeld). z.view.geometry) h ∙ (opened_geometry c.args.round c.takes.word (take_words c.args.seat.now.view.geometry) c.args.seat.now.view ∙ c.requires.pair.1))
+    let h = c.takes.invariant in (
+      ap (λ (z : RecvHeld). z.table) h ∙ c.requires.pair.0,
+      ap (λ (z : RecvHeld). z.view.geometry) h ∙ (opened_geometry c.args.round c.takes.word (take_words c.args.seat.now.view.geometry) c.args.seat.now.view ∙ c.requires.pair.1),
+    )
 
 pub store_take-requires-clause-allowed : goal.store_take-requires-clause-allowed
 store_take-requires-clause-allowed g c =
@@ -61,3 +63,18 @@ returns-clause-seat g c =
 pub returns-clause-home : goal.returns-clause-home
 returns-clause-home g c =
     λ q l at. (c.lanes-lanes.ensures.kept.each q l at).home (λ active. let a = active.1 in let b = c.requires.idle in absurd (omega arith))
+
+pub returns-clause-geometry : goal.returns-clause-geometry
+returns-clause-geometry g c =
+    ap (λ (z : RecvHeld). z.view.geometry) c.takes.invariant ∙ opened_geometry c.args.round c.takes.word (take_words c.args.seat.now.view.geometry) c.args.seat.now.view
+
+pub returns-clause-side : goal.returns-clause-side
+returns-clause-side g c =
+    let s : RecvHeld = c.args.seat.now in
+    let parts = ap (λ (z : Shape). z.recv_parts) (c.geometry.ensures.value ∙ sym c.requires.pair.1) in
+    let all : c.takes.word ≡ take_words s.view.geometry =
+    (let a = c.recv_parts.ensures.value in let b = c.div_ceil-words.ensures in let d = c.takes-test.false in let e = c.takes.auto.word-end in omega arith) in
+    let some : 1 ≤ take_words s.view.geometry = let a = c.geometry.ensures.limits.recv_parts.0 in let b = ap (λ (z : Shape). z.recv_parts) c.requires.pair.1 in omega arith in
+    let recv = ap (λ (z : RecvHeld). z.view.recv) c.takes.invariant ∙ opened_recv c.args.round c.takes.word s.view some in
+    let same = ap (λ (z : RecvHeld). z.view.geometry) c.takes.invariant ∙ opened_geometry c.args.round c.takes.word (take_words s.view.geometry) s.view in
+    ((ap (λ (z : RecvSide). z.takes) recv ∙ (all ∙ sym (ap take_words same)), ap (λ (z : RecvSide). z.released) recv), ap (λ (z : RecvSide). z.watchers) recv)

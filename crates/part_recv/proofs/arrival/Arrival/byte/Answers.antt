@@ -13,4 +13,4 @@ pub loop-cell-preserved : goal.loop-cell-preserved
 loop-cell-preserved g c =
     let high : length c.buf-buf.result.now.bytes ≤ c.loop-cell.at = let a = c.len.ensures in let b = c.if-at-len.false in omega arith in
     subst (λ (z : ℕ). IsByte c.self.inside.shelf.bufs c.args.i (c.loop-cell.at - z) (c.loop-cell.cell + 1)) (sym c.len-at.ensures)
-      (byte_next c.self.inside.shelf.bufs c.args.i c.loop-cell.at c.loop-cell.cell c.buf-buf.result.now c.loop-cell.invariant c.buf-buf.ensures high)
+    (byte_next c.self.inside.shelf.bufs c.args.i c.loop-cell.at c.loop-cell.cell c.buf-buf.result.now c.loop-cell.invariant c.buf-buf.ensures high)

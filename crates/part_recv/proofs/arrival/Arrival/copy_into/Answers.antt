@@ -28,7 +28,8 @@ loop-cell-preserved g c =
     let next = ap length upto ∙ length-append (bytes_in (take c.loop-cell.cell bufs)) b.bytes in
     let few = bytes_few bufs (c.loop-cell.cell + 1) in let here = c.loop-cell.invariant.0 in let len = c.len.ensures in let same = c.loop-cell.auto.out in
     let all : length (bytes_in bufs) ≡ length c.args.out.now = ap (λ (z : Arrived). length z.bytes) c.self.view_is ∙ sym c.requires in
-    let fits : c.loop-cell.at ≤ length c.loop-cell.out = omega arith in
-    (omega arith,
-    copied_more c.loop-cell.out c.copy_into.new.out c.loop-cell.at c.len.result fits (ap length c.copy_into.ensures ∙ sym c.len.ensures)
-    ∙ ((λ i. c.loop-cell.invariant.1 i ++ c.copy_into.ensures i) ∙ sym upto))
+    let fits : c.loop-cell.at ≤ length c.loop-cell.out = omega arith in (
+      omega arith,
+      copied_more c.loop-cell.out c.copy_into.new.out c.loop-cell.at c.len.result fits (ap length c.copy_into.ensures ∙ sym c.len.ensures)
+          ∙ ((λ i. c.loop-cell.invariant.1 i ++ c.copy_into.ensures i) ∙ sym upto),
+    )
