@@ -1,0 +1,57 @@
+-- The bytes of buffers, one after another, read and copied buffer by buffer.
+use Rattle.std.proofs.Common.{◌≡◌, ℕ, zero, suc, ◌+◌, ◌-◌, ◌<◌, ◌≤◌, List, [], ◌∷◌, ◌++◌, length, get_or, take, drop, refl, sym, ap, ◌∙◌, subst, arith, append_assoc, append-nil, length-append, take-append-drop, take_at, length-take-le}
+use borrow.Rule.Slice.PartMut.{put_mid, post_of}
+use mathlib.Core.Option.{some}
+use lib.ListN.{get_elem?}
+use Rattle.std.proofs.lemmas.List.{get_or_append_left, get_or-append_right}
+use Rattle.slot_rows.proofs.Lists.{at_split}
+use Rattle.slot_rows.proofs.Overlays.{take_next}
+use Rattle.pair_rule.specs.Buf.{Buf}
+use Rattle.part_recv.specs.Taking.{bytes_in}
+
+pub bytes_in-append : (a b : List Buf) → bytes_in (a ++ b) ≡ bytes_in a ++ bytes_in b
+bytes_in-append [] b = refl
+bytes_in-append (x ∷ a) b = ap (λ (z : List ℕ). x.bytes ++ z) (bytes_in-append a b) ∙ sym (append_assoc x.bytes (bytes_in a) (bytes_in b))
+
+-- byte i of all is byte `at` of the buffers from number n on
+pub record IsByte (bufs : List Buf) (i at n : ℕ) : Type 0 where
+  pub inside : at < length (bytes_in (drop n bufs))
+  pub same : get_or (bytes_in bufs) i 0 ≡ get_or (bytes_in (drop n bufs)) at 0
+
+-- the bytes of the buffers from number n on, where b is that one
+pub bytes_from : (bufs : List Buf) (n : ℕ) (b : Buf) → get_elem? bufs n ≡ some b → bytes_in (drop n bufs) ≡ b.bytes ++ bytes_in (drop (n + 1) bufs)
+bytes_from bufs n b e = ap bytes_in (at_split bufs n b e).1 ∙ ap (λ (z : ℕ). b.bytes ++ bytes_in (drop z bufs)) (let o : suc n ≡ n + 1 = omega arith in o)
+
+pub byte_here : (bufs : List Buf) (i at n : ℕ) (b : Buf) → IsByte bufs i at n → get_elem? bufs n ≡ some b → at < length b.bytes → get_or b.bytes at 0 ≡ get_or (bytes_in bufs) i 0
+byte_here bufs i at n b h e low =
+    sym (h.same ∙ (ap (λ (z : List ℕ). get_or z at 0) (bytes_from bufs n b e) ∙ get_or_append_left b.bytes (bytes_in (drop (n + 1) bufs)) 0 at low))
+
+pub byte_next : (bufs : List Buf) (i at n : ℕ) (b : Buf) → IsByte bufs i at n → get_elem? bufs n ≡ some b → length b.bytes ≤ at → IsByte bufs i (at - length b.bytes) (n + 1)
+byte_next bufs i at n b h e high =
+    let s = bytes_from bufs n b e in
+    let size : length (bytes_in (drop n bufs)) ≡ length b.bytes + length (bytes_in (drop (n + 1) bufs)) = ap length s ∙ length-append b.bytes (bytes_in (drop (n + 1) bufs)) in
+    let inside = h.inside in
+    record {
+      inside = omega arith;
+      same = h.same ∙ (ap (λ (z : List ℕ). get_or z at 0) s ∙ get_or-append_right b.bytes (bytes_in (drop (n + 1) bufs)) (length b.bytes) at 0 refl high);
+    }
+
+-- the bytes of the first n buffers, and of the next
+pub bytes_upto : (bufs : List Buf) (n : ℕ) (b : Buf) → get_elem? bufs n ≡ some b → bytes_in (take (n + 1) bufs) ≡ bytes_in (take n bufs) ++ b.bytes
+bytes_upto bufs n b e =
+    ap (λ (z : ℕ). bytes_in (take z bufs)) (let o : n + 1 ≡ suc n = omega arith in o)
+    ∙ (ap bytes_in (take_next bufs n b e) ∙ (bytes_in-append (take n bufs) (b ∷ []) ∙ ap (λ (z : List ℕ). bytes_in (take n bufs) ++ z) (append-nil b.bytes)))
+
+-- they are no more than all
+pub bytes_few : (bufs : List Buf) (n : ℕ) → length (bytes_in (take n bufs)) ≤ length (bytes_in bufs)
+bytes_few bufs n =
+    let e : length (bytes_in bufs) ≡ length (bytes_in (take n bufs)) + length (bytes_in (drop n bufs)) =
+    ap (λ (z : List Buf). length (bytes_in z)) (sym (take-append-drop n bufs)) ∙ (ap length (bytes_in-append (take n bufs) (drop n bufs)) ∙ length-append (bytes_in (take n bufs)) (bytes_in (drop n bufs))) in
+    omega arith
+
+-- one more buffer is copied behind what stands
+pub copied_more : (out new : List ℕ) (at n : ℕ) → at ≤ length out → length new ≡ n → take (at + n) (put_mid at (at + n - at) out new) ≡ take at out ++ new
+copied_more out new at n fits size =
+    let post : List ℕ = post_of at (at + n - at) out in
+    let long : length (take at out ++ new) ≡ at + n = let a = length-take-le at out fits in let b = length-append (take at out) new in omega arith in
+    ap (take (at + n)) (sym (append_assoc (take at out) new post)) ∙ take_at (take at out ++ new) post (at + n) long

@@ -1,0 +1,196 @@
+-- What the receive end keeps of its seat holds after each of its calls.
+use Rattle.std.proofs.Common.{◌≡◌, ◌≢◌, ◌⊎◌, ⊎_elim, inl, inr, ℕ, zero, suc, ◌+◌, ◌*◌, ◌/◌, ◌%◌, ◌<◌, ◌≤◌, ◌==◌, Bool, true, false, cond, not, List, [], ◌∷◌, ◌++◌, map, length, take, drop, set, replicate, Option, Some, None, Result, Ok, Err, refl, sym, ap, ◌∙◌, subst, arith, true≢false}
+use mathlib.Core.Logic.{dite}
+use mathlib.Core.Option.{some, some-injective, some-ne-none}
+use native.Mathlib.Decide.{ℕ_discrete}
+use lib.ListN.{get_elem?}
+use Rattle.std.specs.Prelude.{if◌then◌else◌}
+use Rattle.std.proofs.lemmas.Bool.{eq-eqb}
+use Rattle.std.proofs.lemmas.List.{length-replicate}
+use Rattle.atomic_table.proofs.Lists.{set_here, set_else}
+use Rattle.part_geometry.specs.declared.answers.StartFault.{StartFault}
+use Rattle.part_geometry.specs.declared.answers.StartFault.TheVariants.{AlreadyActive, RoundsSpent}
+use Rattle.part_geometry.specs.Shape.{Shape}
+use Rattle.part_geometry.specs.Cells.{cells}
+use Rattle.pair_core.specs.Names.{take_words}
+use Rattle.pair_core.specs.Moves.{IsRecvIdle, IsRecvActive}
+use Rattle.pair_core.specs.Reading.{part_bit}
+use Rattle.pair_core.specs.Names.{Take, Return}
+use Rattle.pair_core.specs.declared.view.RecvSide.{RecvSide}
+use Rattle.slot_rows.specs.declared.lane.Lane.{Lane}
+use Rattle.slot_rows.specs.Lists.{row, spliced}
+use Rattle.slot_rows.specs.Lanes.{place, flagged, HasFlags, rows_of}
+use Rattle.slot_rows.proofs.Lists.{at_split}
+use Rattle.slot_rows.proofs.Lanes.{flagged_at, rows_of_out, rows_of_in, rows_of_none, place_before}
+use Rattle.slot_rows.proofs.Overlays.{spliced_block}
+use Rattle.pair_rule.specs.Buf.{Buf}
+use Rattle.pair_rule.specs.Views.{seen}
+use Rattle.pair_rule.specs.Seats.{RecvHeld, Room, AreLanes, flag, cells_of}
+use Rattle.pair_rule.specs.Parts.{HasOut, without_part, place_of, own_slot, first_slot, taken_from, returned_from}
+use Rattle.pair_rule.specs.declared.view.View.{View}
+use Rattle.pair_rule.proofs.LanesStay.{none_out}
+use Rattle.part_recv.specs.Receiving.{End, IsEnd, IsSide, IsAtRest, HasShelf, is_active, start_answer, all_untaken, end_of}
+use Rattle.part_recv.specs.Taking.{bytes_in}
+use Rattle.part_recv.specs.Parting.{PartTaken, part_returned, AreHome}
+use Rattle.part_recv.proofs.Lending.{lane_at}
+
+-- ---- the side
+
+pub side_same : (a : Bool) (d e : View) → d.geometry ≡ e.geometry → d.recv ≡ e.recv → IsSide a d → IsSide a e
+side_same true d e g r h = subst (λ (z : Shape × RecvSide). IsRecvActive z.0 z.1) (λ i. (g i, r i)) h
+side_same false d e g r h = subst IsRecvIdle r h
+
+-- the flag that the end keeps says whether the side is active
+pub side_flag : (a : Bool) (d : View) → IsSide a d → is_active d ≡ a
+side_flag true d h = eq-eqb d.recv.released 0 h.1
+side_flag false d h = ap (λ (n : ℕ). n == 0) h
+
+pub side_active : (a : Bool) (d : View) → IsSide a d → is_active d ≡ true → IsRecvActive d.geometry d.recv
+side_active true d h e = h
+side_active false d h e = absurd (true≢false (sym e ∙ side_flag false d h))
+
+-- a lane that is out tells that the side is active
+pub out_active : (a : Bool) (d : View) (n q : ℕ) (t : Bool) (ls : List Lane) → IsSide a d → AreLanes d n ls → HasFlags t true q ls → a ≡ true
+out_active true d n q t ls h lanes flags = refl
+out_active false d n q t ls h lanes flags =
+    let home = (lanes.each q flags.lane flags.at).home (λ active. let b = active.1 in absurd (omega (arith, h))) in
+    absurd (true≢false (sym flags.out ∙ home))
+
+pub idle_home : (d : View) (n : ℕ) (ls : List Lane) → AreLanes d n ls → IsRecvIdle d.recv → AreHome ls
+idle_home d n ls lanes idle = λ q l at. (lanes.each q l at).home (λ active. let b = active.1 in absurd (omega (arith, idle)))
+
+-- ---- another view, with the same geometry and round
+
+pub end_view : (a b : Bool) (w v : ℕ) (s : RecvHeld) (d : View) → d.geometry ≡ s.view.geometry → d.recv.round ≡ s.view.recv.round → IsSide b d → v ≡ d.recv.watchers → IsEnd a w s → IsEnd b v (record s { view = d })
+end_view a b w v s d g r side out h = record {
+  side = side;
+  out = out;
+  slots = h.slots ∙ (λ i. rows_of None (sym r i % (sym g i).depth * cells (sym g i)) s.lanes);
+  shelves = λ q l at home.
+      let x = h.shelves q l at home in
+      record { room = x.room; there = x.there; wide = subst (λ (z : Shape). cells_of z q ≤ x.room) (sym g) x.wide };
+}
+
+-- ---- a seat at rest
+
+pub end_begins : (s : RecvHeld) → AreLanes s.view (length s.slots) s.lanes → IsAtRest s → IsEnd false 0 s
+end_begins s lanes h = record {
+  side = h.idle;
+  out = sym h.alone;
+  slots = none_out s.view s.slots s.lanes lanes h.idle ∙ sym (rows_of_none None (place_of s.view * cells s.view.geometry) s.lanes (idle_home s.view (length s.slots) s.lanes lanes h.idle));
+  shelves = λ q l at home. h.shelves q (subst (λ (z : ℕ). q < z) lanes.parts (at_split s.lanes q l at).0);
+}
+
+pub end_rests : (a : Bool) (w : ℕ) (s : RecvHeld) → AreLanes s.view (length s.slots) s.lanes → IsEnd a w s → is_active s.view ≡ false → s.view.recv.watchers ≡ 0 → IsAtRest s
+end_rests true w s lanes h idle alone = absurd (true≢false (sym (side_flag true s.view h.side) ∙ idle))
+end_rests false w s lanes h idle alone = record {
+  idle = h.side;
+  alone = alone;
+  shelves = λ q inside.
+      let l = lane_at s.lanes q (subst (λ (z : ℕ). q < z) (sym lanes.parts) inside) in
+      h.shelves q l.0 l.1 (idle_home s.view (length s.slots) s.lanes lanes h.side q l.0 l.1);
+}
+
+-- ---- a start
+
+untaken_at : (ls : List Lane) (q : ℕ) (l : Lane) → get_elem? (all_untaken ls) q ≡ some l → ((x : Lane) × (get_elem? ls q ≡ some x)) × (l.out ≡ false)
+untaken_at [] q l e = absurd (some-ne-none l (sym e))
+untaken_at (x ∷ xs) zero l e = ((x, refl), sym (ap (λ (z : Lane). z.out) (some-injective (record x { taken = false; out = false }) l e)))
+untaken_at (x ∷ xs) (suc q) l e = untaken_at xs q l e
+
+pub end_starts : (a : Bool) (w : ℕ) (s : RecvHeld) (d : View) → d.geometry ≡ s.view.geometry → IsSide true d → w ≡ d.recv.watchers → AreHome s.lanes → IsEnd a w s → IsEnd true w (record s { view = d; lanes = all_untaken s.lanes })
+end_starts a w s d g side out home h = record {
+  side = side;
+  out = out;
+  slots =
+      h.slots ∙ (rows_of_none None (place_of s.view * cells s.view.geometry) s.lanes home
+      ∙ sym (rows_of_none None (place_of d * cells d.geometry) (all_untaken s.lanes) (λ q l at. (untaken_at s.lanes q l at).1)));
+  shelves = λ q l at still.
+      let y = (untaken_at s.lanes q l at).0 in
+      let x = h.shelves q y.0 y.1 (home q y.0 y.1) in
+      record { room = x.room; there = x.there; wide = subst (λ (z : Shape). cells_of z q ≤ x.room) (sym g) x.wide };
+}
+
+-- ---- a take
+
+pub end_takes : (may : ℕ → ℕ → ℕ → Type 0) (a : Bool) (w q : ℕ) (shelf : Room) (s t : RecvHeld) → AreLanes s.view (length s.slots) s.lanes → HasFlags false false q s.lanes → PartTaken may q shelf s t → IsEnd a w s → IsEnd a w t
+end_takes may a w q shelf s t lanes free h end =
+    let g : Shape = s.view.geometry in let base : ℕ = place_of s.view * cells g in
+    let lane = lanes.each q free.lane free.at in
+    let d : View = taken_from q (bytes_in shelf.bufs) (seen s.view (Take (q / 32))) s.view in
+    let ls : List Lane = flagged true true q s.lanes in
+    let n : RecvHeld = record s { view = d; lanes = ls; slots = spliced (place s.lanes q) (own_slot s.view q) (replicate (cells_of g q) None) s.slots; shelves = set s.shelves q None } in
+    let slots : spliced (place s.lanes q) (own_slot s.view q) (replicate (cells_of g q) None) s.slots ≡ rows_of None base ls =
+    (λ i. spliced (place s.lanes q) (base + sym lane.first i) (replicate (sym lane.count i) None) (end.slots i)) ∙ sym (rows_of_out None base true q s.lanes free.lane free.at free.out) in
+    let e : IsEnd a w n = record {
+      side = side_same a s.view d refl refl end.side;
+      out = end.out;
+      slots = slots;
+      shelves = λ p l at home.
+          ⊎_elim (λ (y : (p ≡ q) × ((x : Lane) × (get_elem? s.lanes q ≡ some x) × (record x { taken = true; out = true } ≡ l))).
+          absurd (true≢false (ap (λ (z : Lane). z.out) y.1.2 ∙ home)))
+          (λ (y : (p ≢ q) × (get_elem? s.lanes p ≡ some l)).
+          let x = end.shelves p l y.1 home in record { room = x.room; there = set_else s.shelves q p None y.0 ∙ x.there; wide = x.wide })
+          (flagged_at true true q s.lanes p l at);
+    } in
+    subst (λ (z : RecvHeld). IsEnd a w z) (sym h.seat) e
+
+-- ---- a return
+
+module _ (a : Bool) (w q : ℕ) (s : RecvHeld) (lanes : AreLanes s.view (length s.slots) s.lanes) (h : HasFlags true true q s.lanes) (end : IsEnd a w s) where
+  block : (take (cells_of s.view.geometry q) (drop (place s.lanes q) s.slots) ≡ row (own_slot s.view q) (replicate (cells_of s.view.geometry q) None))
+      × (without_part s.view.geometry s.lanes q s.slots ≡ rows_of None (place_of s.view * cells s.view.geometry) (flagged true false q s.lanes))
+  block =
+      let g : Shape = s.view.geometry in let base : ℕ = place_of s.view * cells g in
+      let lane = lanes.each q h.lane h.at in
+      let rest : List (ℕ × Option Buf) = rows_of None base (flagged true false q s.lanes) in
+      let is : s.slots ≡ spliced (place s.lanes q) (own_slot s.view q) (replicate (cells_of g q) None) rest =
+      end.slots ∙ (rows_of_in None base q s.lanes h.lane h.at h.taken h.out ∙ (λ i. spliced (place s.lanes q) (base + lane.first i) (replicate (lane.count i) None) rest)) in
+      let b = spliced_block (place s.lanes q) (own_slot s.view q) (cells_of g q) (replicate (cells_of g q) None) rest (place_before None base q s.lanes) (length-replicate (cells_of g q) None) in
+      (ap (λ (z : List (ℕ × Option Buf)). take (cells_of g q) (drop (place s.lanes q) z)) is ∙ b.0, ap (λ (z : List (ℕ × Option Buf)). without_part g s.lanes q z) is ∙ b.1)
+
+  pub out_values : HasOut (place_of s.view) q (replicate (cells_of s.view.geometry q) None) s
+  out_values = record { size = length-replicate (cells_of s.view.geometry q) None; stand = block.0 }
+
+  pub end_returns : (shelf : Room) → length s.shelves ≡ s.view.geometry.recv_parts → cells_of s.view.geometry q ≤ shelf.room → IsEnd a w (part_returned q shelf s)
+  end_returns shelf size room = record {
+    side = side_same a s.view (returned_from q (seen s.view (Return (q / 32))) s.view) refl refl end.side;
+    out = end.out;
+    slots = block.1;
+    shelves = λ p l at home.
+        let empty : Room = record { bufs = []; room = shelf.room } in
+        let inside : q < length s.shelves = let x = (at_split s.lanes q h.lane h.at).0 in let parts = lanes.parts in omega arith in
+        ⊎_elim (λ (y : (p ≡ q) × ((x : Lane) × (get_elem? s.lanes q ≡ some x) × (record x { taken = true; out = false } ≡ l))).
+        record {
+          room = shelf.room;
+          there = ap (get_elem? (set s.shelves q (Some empty))) y.0 ∙ set_here s.shelves q (Some empty) inside;
+          wide = subst (λ (z : ℕ). cells_of s.view.geometry z ≤ shelf.room) (sym y.0) room;
+        })
+        (λ (y : (p ≢ q) × (get_elem? s.lanes p ≡ some l)).
+        let x = end.shelves p l y.1 home in record { room = x.room; there = set_else s.shelves q p (Some empty) y.0 ∙ x.there; wide = x.wide })
+        (flagged_at true false q s.lanes p l at);
+  }
+
+-- ---- what the flags of a lane say of the words
+
+pub taken_bit : (d : View) (n q : ℕ) (o : Bool) (ls : List Lane) → AreLanes d n ls → HasFlags true o q ls → part_bit (λ t. seen d (Take t)) q ≡ 1
+taken_bit d n q o ls lanes h = (lanes.each q h.lane h.at).taken ∙ ap flag h.taken
+
+pub free_bit : (d : View) (n q : ℕ) (o : Bool) (ls : List Lane) → AreLanes d n ls → HasFlags false o q ls → part_bit (λ t. seen d (Take t)) q ≡ 0
+free_bit d n q o ls lanes h = (lanes.each q h.lane h.at).taken ∙ ap flag h.taken
+
+pub out_bit : (d : View) (n q : ℕ) (ls : List Lane) → AreLanes d n ls → IsRecvActive d.geometry d.recv → HasFlags true true q ls → part_bit (λ t. seen d (Return t)) q ≡ 0
+out_bit d n q ls lanes active h =
+    let e = (lanes.each q h.lane h.at).out active in let a = ap flag h.taken in let b = ap flag h.out in omega arith
+
+pub back_bit : (d : View) (n q : ℕ) (ls : List Lane) → AreLanes d n ls → IsRecvActive d.geometry d.recv → HasFlags true false q ls → part_bit (λ t. seen d (Return t)) q ≡ 1
+back_bit d n q ls lanes active h =
+    let e = (lanes.each q h.lane h.at).out active in let a = ap flag h.taken in let b = ap flag h.out in omega arith
+
+-- a lane that isn't taken isn't out
+pub free_flags : (d : View) (n q : ℕ) (ls : List Lane) (l : Lane) → AreLanes d n ls → IsRecvActive d.geometry d.recv → get_elem? ls q ≡ some l → l.taken ≡ false → HasFlags false false q ls
+free_flags d n q ls l lanes active at free = record { lane = l; at = at; taken = free; out = none l.out (let e = (lanes.each q l at).out active in let a = ap flag free in omega arith) }
+  where
+    none : (b : Bool) → flag b ≡ 0 → b ≡ false
+    none true e = absurd (omega arith)
+    none false e = refl

@@ -1,0 +1,107 @@
+-- A take moves the buffers of a partition from its slots onto its shelf, and a return moves them back: the slots that are out
+-- are the same but for the partition's own, which are empty while its buffers are on the shelf.
+use Rattle.std.proofs.Common.{◌≡◌, ℕ, zero, suc, ◌+◌, ◌/◌, ◌%◌, ◌<◌, ◌≤◌, Bool, true, false, List, [], ◌∷◌, ◌++◌, map, length, take, drop, set, replicate, Option, Some, None, refl, sym, ap, ◌∙◌, subst, arith}
+use mathlib.Core.Option.{some}
+use lib.ListN.{get_elem?, length-map}
+use Rattle.std.proofs.lemmas.List.{length-replicate}
+use Rattle.part_geometry.specs.Shape.{Shape}
+use Rattle.part_tables.specs.Parts.{first_received}
+use Rattle.pair_core.specs.Names.{Take, Return}
+use Rattle.slot_rows.specs.declared.lane.Lane.{Lane}
+use Rattle.slot_rows.specs.Lists.{row, spliced, overlaid}
+use Rattle.slot_rows.specs.Lanes.{place, flagged, HasFlags}
+use Rattle.slot_rows.proofs.Lanes.{wide_below, flagged_place, flags_here}
+use Rattle.slot_rows.proofs.Overlays.{block_taken, same_row, over_spliced, overlaid_block}
+use Rattle.pair_rule.specs.Buf.{Buf}
+use Rattle.pair_rule.specs.Views.{seen}
+use Rattle.pair_rule.specs.Steps.{AreOf}
+use Rattle.pair_rule.specs.Seats.{RecvHeld, Room, AreLanes, cells_of}
+use Rattle.pair_rule.specs.Parts.{HasTaken, HasOut, HasFilled, AreTaken, with_values, returned, taken_from, returned_from, without_part, own_slot, first_slot, place_of, spot}
+use Rattle.part_recv.specs.Taking.{bytes_in}
+use Rattle.part_recv.specs.Parting.{PartTaken, part_returned}
+
+-- there is a lane at each number below their count
+pub lane_at : (ls : List Lane) (q : ℕ) → q < length ls → (l : Lane) × (get_elem? ls q ≡ some l)
+lane_at [] q h = absurd (omega arith)
+lane_at (l ∷ ls) zero h = (l, refl)
+lane_at (l ∷ ls) (suc q) h = lane_at ls q (omega arith)
+
+pub place_fits : (s : RecvHeld) (q : ℕ) → AreLanes s.view (length s.slots) s.lanes → place s.lanes q ≤ length s.slots
+place_fits s q lanes = let a = wide_below q s.lanes in let b = lanes.total in omega arith
+
+pub flags_out : (t o : Bool) (q : ℕ) (ls : List Lane) → q < length ls → HasFlags t o q (flagged t o q ls)
+flags_out t o q ls h = let l = lane_at ls q h in flags_here l.0.taken l.0.out t o q ls record { lane = l.0; at = l.1; taken = refl; out = refl }
+
+-- a shelf that stands at a number is one
+pub shelf_one : (a b : Room) → some (Some a) ≡ some (Some b) → a ≡ b
+shelf_one a b e = cc
+
+-- ---- a take
+
+module _ (may : ℕ → ℕ → ℕ → Type 0) (q e found : ℕ) (s t : RecvHeld) (lanes : AreLanes s.view (length s.slots) s.lanes) (there : e ≡ place_of s.view) (h : HasTaken may q found s t) where
+  pub taken_flags : q < s.view.geometry.recv_parts → HasFlags true true q t.lanes
+  taken_flags part =
+      subst (λ (z : RecvHeld). HasFlags true true q z.lanes) (sym h.seat) (flags_out true true q s.lanes (let n = lanes.parts in omega arith))
+
+  pub taken_values : HasOut e q (map Some h.bufs) t
+  taken_values =
+      let g : Shape = s.view.geometry in
+      subst (λ (z : RecvHeld). HasOut e q (map Some h.bufs) z) (sym h.seat) record {
+        size = length-map h.bufs Some ∙ h.are.size;
+        stand =
+            block_taken (own_slot s.view q) (cells_of g q) (cells_of g q) (place s.lanes q) (place (flagged true true q s.lanes) q) h.bufs s.slots
+            (spliced (place s.lanes q) (own_slot s.view q) (map Some h.bufs) s.slots) refl (flagged_place true true q s.lanes) refl (place_fits s q lanes) h.are.size
+            ∙ ap (λ (z : ℕ). row (first_slot g z q) (map Some h.bufs)) (sym there);
+      }
+
+  same_bufs : (bufs : List Buf) → HasOut e q (map Some bufs) t → h.bufs ≡ bufs
+  same_bufs bufs out = same_row (first_slot t.view.geometry e q) h.bufs bufs (sym taken_values.stand ∙ out.stand)
+
+  lent_slots : overlaid (place (flagged true true q s.lanes) q) (first_slot s.view.geometry e q) (replicate (cells_of s.view.geometry q) None) (spliced (place s.lanes q) (own_slot s.view q) (map Some h.bufs) s.slots)
+      ≡ spliced (place s.lanes q) (own_slot s.view q) (replicate (cells_of s.view.geometry q) None) s.slots
+  lent_slots =
+      let g : Shape = s.view.geometry in let nones : List (Option Buf) = replicate (cells_of g q) None in
+      (λ i. overlaid (flagged_place true true q s.lanes i) (first_slot g (there i) q) nones (spliced (place s.lanes q) (own_slot s.view q) (map Some h.bufs) s.slots))
+      ∙ over_spliced (place s.lanes q) (own_slot s.view q) (cells_of g q) nones (map Some h.bufs) s.slots (place_fits s q lanes) (length-replicate (cells_of g q) None) (length-map h.bufs Some ∙ h.are.size)
+
+  pub lent_seat : (shelf : Room) (n : RecvHeld) → n ≡ with_values e q (replicate (cells_of t.view.geometry q) None) t → HasOut e q (map Some shelf.bufs) t → found ≡ seen s.view (Take (q / 32))
+      → n ≡ record s {
+        view = taken_from q (bytes_in shelf.bufs) (seen s.view (Take (q / 32))) s.view;
+        lanes = flagged true true q s.lanes;
+        slots = spliced (spot s.lanes q) (own_slot s.view q) (replicate (cells_of s.view.geometry q) None) s.slots;
+      }
+  lent_seat shelf n is out word =
+      let with : h.with ≡ bytes_in shelf.bufs = sym h.are.bytes ∙ ap bytes_in (same_bufs shelf.bufs out) in
+      is ∙ (ap (λ (z : RecvHeld). with_values e q (replicate (cells_of z.view.geometry q) None) z) h.seat
+      ∙ (λ i. record s { view = taken_from q (with i) (word i) s.view; lanes = flagged true true q s.lanes; slots = lent_slots i }))
+
+  pub lent_are : (shelf : Room) → HasOut e q (map Some shelf.bufs) t → AreTaken may s.view q shelf.bufs (bytes_in shelf.bufs)
+  lent_are shelf out =
+      let same = same_bufs shelf.bufs out in
+      subst (λ (z : List Buf × List ℕ). AreTaken may s.view q z.0 z.1) (λ i. (same i, (sym h.are.bytes ∙ ap bytes_in same) i)) h.are
+
+-- ---- a return
+
+module _ (q e : ℕ) (s : RecvHeld) (shelf : Room) (lanes : AreLanes s.view (length s.slots) s.lanes) (there : e ≡ place_of s.view) (full : length shelf.bufs ≡ cells_of s.view.geometry q) where
+  -- the seat with the buffers in their slots, and the shelf in its place
+  abbrev pub filled_seat : List (Option Room) → RecvHeld
+  filled_seat shelves = record (with_values e q (map Some shelf.bufs) s) { shelves = shelves }
+
+  block : (take (cells_of s.view.geometry q) (drop (place s.lanes q) (overlaid (place s.lanes q) (first_slot s.view.geometry e q) (map Some shelf.bufs) s.slots)) ≡ row (first_slot s.view.geometry e q) (map Some shelf.bufs))
+      × (without_part s.view.geometry s.lanes q (overlaid (place s.lanes q) (first_slot s.view.geometry e q) (map Some shelf.bufs) s.slots) ≡ without_part s.view.geometry s.lanes q s.slots)
+  block = overlaid_block (place s.lanes q) (first_slot s.view.geometry e q) (cells_of s.view.geometry q) (map Some shelf.bufs) s.slots (place_fits s q lanes) (length-map shelf.bufs Some ∙ full)
+
+  pub filled_values : (shelves : List (Option Room)) → AreOf s.view.geometry s.view.recv.round (first_received s.view.geometry q) shelf.bufs → HasFilled q (filled_seat shelves)
+  filled_values shelves of = record {
+    bufs = shelf.bufs;
+    out = record {
+      size = length-map shelf.bufs Some ∙ full;
+      stand = block.0 ∙ ap (λ (z : ℕ). row (first_slot s.view.geometry z q) (map Some shelf.bufs)) there;
+    };
+    of = of;
+  }
+
+  pub back_seat : (shelves : List (Option Room)) (found : ℕ) → found ≡ seen s.view (Return (q / 32))
+      → returned q found (filled_seat shelves) ≡ record (returned q (seen s.view (Return (q / 32))) s) { shelves = shelves }
+  back_seat shelves found word =
+      λ i. record s { view = returned_from q (word i) s.view; lanes = flagged true false q s.lanes; slots = block.1 i; shelves = shelves }

@@ -1,0 +1,10 @@
+pub mod Pieces
+pub mod Masks
+pub mod Walking
+pub mod News
+pub mod Lending
+pub mod Opening
+pub mod Bytes
+pub mod Ending
+pub mod Finding
+pub mod Arriving
