@@ -10,6 +10,7 @@ pub mod pair_rule_caller;
 pub mod part_api_caller;
 pub mod part_geometry_caller;
 pub mod part_io_caller;
+pub mod part_recv_caller;
 pub mod part_tables_caller;
 pub mod plain_pair_caller;
 pub mod script_pair_caller;
