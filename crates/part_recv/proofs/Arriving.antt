@@ -42,7 +42,8 @@ sees_all k q old new v part place size h =
       subst (λ (z : View). IsFull g (get_or z.seen (number g (Piece (k % g.depth) i)) 0) k i) (sym h.looks.view)
         (seen_full k (k % g.depth) (first_piece g q) h.words old place (let few1 = few.1 in omega arith) long h.full i low (omega arith)))
 
-module _ (may : ℕ → ℕ → ℕ → Type 0) (q : ℕ) (shelf : Room) (s t : RecvHeld) (o : End) (looks : LookedAll q o (end_of s)) (h : PartTaken may q shelf s t) where
+-- the seat after a look that found all full, beside the end before it
+module _ (q : ℕ) (s : RecvHeld) (o : End) (looks : LookedAll q o (end_of s)) where
   view_is : s.view ≡ looks.view
   view_is = ap (λ (z : End). z.view) looks.end
 
@@ -55,40 +56,48 @@ module _ (may : ℕ → ℕ → ℕ → Type 0) (q : ℕ) (shelf : Room) (s t : 
   pub same_lanes : s.lanes ≡ o.lanes
   same_lanes = ap (λ (z : End). z.lanes) looks.end
 
-  abbrev arrived : Arrived
-  arrived = record { geometry = o.view.geometry; round = o.view.recv.round; partition = q; bytes = bytes_in shelf.bufs }
+  pub same_round : s.view.recv.round ≡ o.view.recv.round
+  same_round = ap (λ (z : RecvSide). z.round) same_recv
 
-  round_is : s.view.recv.round ≡ o.view.recv.round
-  round_is = ap (λ (z : RecvSide). z.round) same_recv
+  -- all pieces over the partition are seen full in its round
+  pub are_seen : IsShape o.view.geometry → q < o.view.geometry.recv_parts → o.view.recv.round % o.view.geometry.depth < o.view.geometry.depth → length s.view.seen ≡ word_count s.view.geometry
+      → AreSeen s.view.geometry (seen s.view) s.view.recv.round q
+  are_seen v part place size =
+      subst (λ (z : ℕ). AreSeen s.view.geometry (seen s.view) z q) (sym same_round)
+        (sees_all o.view.recv.round q o.view s.view v part place size (subst (λ (z : View). SeesAll o.view.recv.round q o.view z) (sym view_is) looks.sees))
 
-  pub arrival_is : q < o.view.geometry.recv_parts → IsArrival o.view.geometry o.view.recv.round q shelf
-  arrival_is part = record {
-    part = part;
-    size = h.are.size ∙ ap (λ (z : Shape). cells_of z q) same_geometry;
-    of = subst (λ (z : Shape × ℕ). AreOf z.0 z.1 (first_received z.0 q) shelf.bufs) (λ i. (same_geometry i, round_is i)) h.are.of;
-    long = h.are.long ∙ ap (λ (z : Shape). z.recv_bytes) same_geometry;
-    room = subst (λ (z : Shape). cells_of z q ≤ shelf.room) same_geometry h.room;
-  }
+  abbrev pub arrived : Room → Arrived
+  arrived shelf = record { geometry = o.view.geometry; round = o.view.recv.round; partition = q; bytes = bytes_in shelf.bufs }
 
-  pub taken_says : MayLook q o → HasFlags false false q o.lanes → (a : Arrived) → a ≡ arrived → Takes may q a o (end_of t)
-  taken_says active free a is =
-      let one : Takes may q arrived o (end_of t) = record {
-        active = active;
-        free = free;
-        at = end_of s;
-        looks = looks;
-        arrival = refl;
-        end = ap end_of h.seat;
-        long = h.are.long ∙ ap (λ (z : Shape). z.recv_bytes) same_geometry;
-        allowed = λ j low. subst (λ (z : ℕ × ℕ). may z.0 (q * z.1 + j) (get_or (bytes_in shelf.bufs) j 0)) (λ i. (round_is i, (same_geometry i).recv_bytes)) (h.are.allowed j low);
-      } in
-      subst (λ (z : Arrived). Takes may q z o (end_of t)) (sym is) one
+  module _ (may : ℕ → ℕ → ℕ → Type 0) (shelf : Room) (t : RecvHeld) (h : PartTaken may q shelf s t) where
+    pub arrival_is : q < o.view.geometry.recv_parts → IsArrival o.view.geometry o.view.recv.round q shelf
+    arrival_is part = record {
+      part = part;
+      size = h.are.size ∙ ap (λ (z : Shape). cells_of z q) same_geometry;
+      of = subst (λ (z : Shape × ℕ). AreOf z.0 z.1 (first_received z.0 q) shelf.bufs) (λ i. (same_geometry i, same_round i)) h.are.of;
+      long = h.are.long ∙ ap (λ (z : Shape). z.recv_bytes) same_geometry;
+      room = subst (λ (z : Shape). cells_of z q ≤ shelf.room) same_geometry h.room;
+    }
 
-  pub taken_out : q < length s.lanes → (a : Arrived) → a ≡ arrived → IsOut a (end_of t)
-  taken_out inside a is =
-      let one : IsOut arrived (end_of t) = subst (λ (z : RecvHeld). IsOut arrived (end_of z)) (sym h.seat) record {
-        geometry = sym same_geometry;
-        round = sym round_is;
-        out = flags_out true true q s.lanes inside;
-      } in
-      subst (λ (z : Arrived). IsOut z (end_of t)) (sym is) one
+    pub taken_says : MayLook q o → HasFlags false false q o.lanes → (a : Arrived) → a ≡ arrived shelf → Takes may q a o (end_of t)
+    taken_says active free a is =
+        let one : Takes may q (arrived shelf) o (end_of t) = record {
+          active = active;
+          free = free;
+          at = end_of s;
+          looks = looks;
+          arrival = refl;
+          end = ap end_of h.seat;
+          long = h.are.long ∙ ap (λ (z : Shape). z.recv_bytes) same_geometry;
+          allowed = λ j low. subst (λ (z : ℕ × ℕ). may z.0 (q * z.1 + j) (get_or (bytes_in shelf.bufs) j 0)) (λ i. (same_round i, (same_geometry i).recv_bytes)) (h.are.allowed j low);
+        } in
+        subst (λ (z : Arrived). Takes may q z o (end_of t)) (sym is) one
+
+    pub taken_out : q < length s.lanes → (a : Arrived) → a ≡ arrived shelf → IsOut a (end_of t)
+    taken_out inside a is =
+        let one : IsOut (arrived shelf) (end_of t) = subst (λ (z : RecvHeld). IsOut (arrived shelf) (end_of z)) (sym h.seat) record {
+          geometry = sym same_geometry;
+          round = sym same_round;
+          out = flags_out true true q s.lanes inside;
+        } in
+        subst (λ (z : Arrived). IsOut z (end_of t)) (sym is) one

@@ -8,3 +8,4 @@ pub mod Bytes
 pub mod Ending
 pub mod Finding
 pub mod Arriving
+pub mod Testing
