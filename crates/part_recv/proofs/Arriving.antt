@@ -1,21 +1,20 @@
 -- What a take by the receive end's seat says of the end and of the arrival.
-use Rattle.std.proofs.Common.{◌≡◌, ℕ, ◌+◌, ◌*◌, ◌%◌, ◌<◌, ◌≤◌, true, false, List, length, get_or, refl, sym, ap, ◌∙◌, subst, arith}
+use Rattle.std.proofs.Common.{◌≡◌, ℕ, ◌+◌, ◌*◌, ◌%◌, ◌<◌, ◌≤◌, true, false, length, get_or, refl, sym, ap, ◌∙◌, subst, arith}
 use Rattle.part_geometry.specs.Shape.{Shape, IsShape}
-use Rattle.part_geometry.specs.Pieces.{pieces}
 use Rattle.part_tables.specs.Parts.{first_received}
 use Rattle.pair_core.specs.Names.{Piece, number}
 use Rattle.pair_core.specs.Reading.{IsFull}
 use Rattle.pair_core.specs.State.{word_count}
 use Rattle.pair_core.specs.Moves.{AreSeen}
 use Rattle.pair_core.specs.declared.view.RecvSide.{RecvSide}
-use Rattle.slot_rows.specs.Lanes.{HasFlags, flagged}
+use Rattle.slot_rows.specs.Lanes.{HasFlags}
 use Rattle.pair_rule.specs.Steps.{AreOf}
-use Rattle.pair_rule.specs.Seats.{RecvHeld, Room, AreLanes, cells_of}
+use Rattle.pair_rule.specs.Seats.{RecvHeld, Room, cells_of}
 use Rattle.pair_rule.specs.Views.{seen}
 use Rattle.pair_rule.specs.declared.view.View.{View}
-use Rattle.part_recv.specs.Seeing.{SeesAll, first_piece, after_piece, place_in}
+use Rattle.part_recv.specs.Seeing.{SeesAll, first_piece, place_in}
 use Rattle.part_recv.specs.Receiving.{End, end_of}
-use Rattle.part_recv.specs.Taking.{Arrived, IsArrival, IsOut, LookedAll, MayLook, Takes, bytes_in, took}
+use Rattle.part_recv.specs.Taking.{Arrived, IsArrival, IsOut, LookedAll, MayLook, Takes, bytes_in}
 use Rattle.part_recv.specs.Parting.{PartTaken}
 use Rattle.part_recv.proofs.Pieces.{the_pieces, some_pieces}
 use Rattle.part_recv.proofs.Walking.{looked_is, looked_geometry, looked_size, seen_full}
@@ -37,10 +36,10 @@ sees_all k q old new v part place size h =
     let few = some_pieces g v q part in
     let long : length old.seen ≡ word_count g = sym (looked_size (place_in old k) (first_piece g q) h.words old) ∙ (sym (ap (λ (z : View). length z.seen) h.looks.view) ∙ (size ∙ ap word_count same)) in
     subst (λ (z : Shape). AreSeen z (λ x. get_or new.seen (number z x) 0) k q) (sym same) (λ i inside touches.
-      let both = (the_pieces g q i v part inside).0 touches in
-      let all = h.all in let low = both.0 in let high = both.1 in
-      subst (λ (z : View). IsFull g (get_or z.seen (number g (Piece (k % g.depth) i)) 0) k i) (sym h.looks.view)
-        (seen_full k (k % g.depth) (first_piece g q) h.words old place (let few1 = few.1 in omega arith) long h.full i low (omega arith)))
+    let both = (the_pieces g q i v part inside).0 touches in
+    let all = h.all in let low = both.0 in let high = both.1 in
+    subst (λ (z : View). IsFull g (get_or z.seen (number g (Piece (k % g.depth) i)) 0) k i) (sym h.looks.view)
+    (seen_full k (k % g.depth) (first_piece g q) h.words old place (let few1 = few.1 in omega arith) long h.full i low (omega arith)))
 
 -- the seat after a look that found all full, beside the end before it
 module _ (q : ℕ) (s : RecvHeld) (o : End) (looks : LookedAll q o (end_of s)) where
@@ -64,7 +63,7 @@ module _ (q : ℕ) (s : RecvHeld) (o : End) (looks : LookedAll q o (end_of s)) w
       → AreSeen s.view.geometry (seen s.view) s.view.recv.round q
   are_seen v part place size =
       subst (λ (z : ℕ). AreSeen s.view.geometry (seen s.view) z q) (sym same_round)
-        (sees_all o.view.recv.round q o.view s.view v part place size (subst (λ (z : View). SeesAll o.view.recv.round q o.view z) (sym view_is) looks.sees))
+      (sees_all o.view.recv.round q o.view s.view v part place size (subst (λ (z : View). SeesAll o.view.recv.round q o.view z) (sym view_is) looks.sees))
 
   abbrev pub arrived : Room → Arrived
   arrived shelf = record { geometry = o.view.geometry; round = o.view.recv.round; partition = q; bytes = bytes_in shelf.bufs }

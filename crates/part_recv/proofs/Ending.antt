@@ -1,18 +1,12 @@
 -- What the receive end keeps of its seat holds after each of its calls.
-use Rattle.std.proofs.Common.{◌≡◌, ◌≢◌, ◌⊎◌, ⊎_elim, inl, inr, ℕ, zero, suc, ◌+◌, ◌*◌, ◌/◌, ◌%◌, ◌<◌, ◌≤◌, ◌==◌, Bool, true, false, cond, not, List, [], ◌∷◌, ◌++◌, map, length, take, drop, set, replicate, Option, Some, None, Result, Ok, Err, refl, sym, ap, ◌∙◌, subst, arith, true≢false}
-use mathlib.Core.Logic.{dite}
+use Rattle.std.proofs.Common.{◌≡◌, ◌≢◌, ⊎_elim, ℕ, zero, suc, ◌+◌, ◌*◌, ◌/◌, ◌%◌, ◌<◌, ◌≤◌, ◌==◌, Bool, true, false, List, [], ◌∷◌, length, take, drop, set, replicate, Option, Some, None, refl, sym, ap, ◌∙◌, subst, arith, true≢false}
 use mathlib.Core.Option.{some, some-injective, some-ne-none}
-use native.Mathlib.Decide.{ℕ_discrete}
 use lib.ListN.{get_elem?}
-use Rattle.std.specs.Prelude.{if◌then◌else◌}
 use Rattle.std.proofs.lemmas.Bool.{eq-eqb}
 use Rattle.std.proofs.lemmas.List.{length-replicate}
 use Rattle.atomic_table.proofs.Lists.{set_here, set_else}
-use Rattle.part_geometry.specs.declared.answers.StartFault.{StartFault}
-use Rattle.part_geometry.specs.declared.answers.StartFault.TheVariants.{AlreadyActive, RoundsSpent}
 use Rattle.part_geometry.specs.Shape.{Shape}
 use Rattle.part_geometry.specs.Cells.{cells}
-use Rattle.pair_core.specs.Names.{take_words}
 use Rattle.pair_core.specs.Moves.{IsRecvIdle, IsRecvActive}
 use Rattle.pair_core.specs.Reading.{part_bit}
 use Rattle.pair_core.specs.Names.{Take, Return}
@@ -26,10 +20,10 @@ use Rattle.slot_rows.proofs.Overlays.{spliced_block}
 use Rattle.pair_rule.specs.Buf.{Buf}
 use Rattle.pair_rule.specs.Views.{seen}
 use Rattle.pair_rule.specs.Seats.{RecvHeld, Room, AreLanes, flag, cells_of}
-use Rattle.pair_rule.specs.Parts.{HasOut, without_part, place_of, own_slot, first_slot, taken_from, returned_from}
+use Rattle.pair_rule.specs.Parts.{HasOut, without_part, place_of, own_slot, taken_from, returned_from}
 use Rattle.pair_rule.specs.declared.view.View.{View}
 use Rattle.pair_rule.proofs.LanesStay.{none_out}
-use Rattle.part_recv.specs.Receiving.{End, IsEnd, IsSide, IsAtRest, HasShelf, is_active, start_answer, all_untaken, end_of}
+use Rattle.part_recv.specs.Receiving.{IsEnd, IsSide, IsAtRest, is_active, all_untaken}
 use Rattle.part_recv.specs.Taking.{bytes_in}
 use Rattle.part_recv.specs.Parting.{PartTaken, part_returned, AreHome}
 use Rattle.part_recv.proofs.Lending.{lane_at}

@@ -1,5 +1,5 @@
 -- What a look by the receive end's seat says of the end.
-use Rattle.std.proofs.Common.{◌≡◌, ℕ, ◌+◌, ◌%◌, ◌<◌, Bool, true, List, Option, Some, None, refl, sym, ap, ◌∙◌, subst}
+use Rattle.std.proofs.Common.{◌≡◌, ℕ, Bool, List, Option, Some, None, sym, ap, ◌∙◌, subst}
 use Rattle.std.specs.Option.{MatchOption}
 use Rattle.pair_core.specs.declared.view.RecvSide.{RecvSide}
 use Rattle.pair_rule.specs.Seats.{RecvHeld}
@@ -7,7 +7,7 @@ use Rattle.pair_rule.specs.declared.view.View.{View}
 use Rattle.part_recv.specs.Seeing.{Looks, SeesAll, Misses}
 use Rattle.part_recv.specs.Watching.{IsNew}
 use Rattle.part_recv.specs.Found.{Found, StaysFull}
-use Rattle.part_recv.specs.Receiving.{End, IsEnd, IsSide, end_of}
+use Rattle.part_recv.specs.Receiving.{End, IsEnd, end_of}
 use Rattle.part_recv.specs.Taking.{Looked, LookedAll}
 use Rattle.part_recv.specs.declared.looking.Missed.{Missed}
 use Rattle.part_recv.proofs.Walking.{looked_is, looked_geometry}

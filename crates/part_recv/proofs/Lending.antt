@@ -1,6 +1,6 @@
 -- A take moves the buffers of a partition from its slots onto its shelf, and a return moves them back: the slots that are out
 -- are the same but for the partition's own, which are empty while its buffers are on the shelf.
-use Rattle.std.proofs.Common.{◌≡◌, ℕ, zero, suc, ◌+◌, ◌/◌, ◌%◌, ◌<◌, ◌≤◌, Bool, true, false, List, [], ◌∷◌, ◌++◌, map, length, take, drop, set, replicate, Option, Some, None, refl, sym, ap, ◌∙◌, subst, arith}
+use Rattle.std.proofs.Common.{◌≡◌, ℕ, zero, suc, ◌/◌, ◌<◌, ◌≤◌, Bool, true, false, List, [], ◌∷◌, map, length, take, drop, replicate, Option, Some, None, refl, sym, ap, ◌∙◌, subst, arith}
 use mathlib.Core.Option.{some}
 use lib.ListN.{get_elem?, length-map}
 use Rattle.std.proofs.lemmas.List.{length-replicate}
@@ -18,7 +18,6 @@ use Rattle.pair_rule.specs.Steps.{AreOf}
 use Rattle.pair_rule.specs.Seats.{RecvHeld, Room, AreLanes, cells_of}
 use Rattle.pair_rule.specs.Parts.{HasTaken, HasOut, HasFilled, AreTaken, with_values, returned, taken_from, returned_from, without_part, own_slot, first_slot, place_of, spot}
 use Rattle.part_recv.specs.Taking.{bytes_in}
-use Rattle.part_recv.specs.Parting.{PartTaken, part_returned}
 
 -- there is a lane at each number below their count
 pub lane_at : (ls : List Lane) (q : ℕ) → q < length ls → (l : Lane) × (get_elem? ls q ≡ some l)

@@ -1,16 +1,15 @@
 -- A piece's word is full in a round where its bits have the piece's mask.
-use Rattle.std.proofs.Common.{◌≡◌, ◌↔◌, ℕ, ◌+◌, ◌-◌, ◌^◌, ◌<◌, ◌≤◌, refl, sym, ap, ◌∙◌, subst, arith, inl, inr, bit_and}
-use Rattle.std.specs.Int.{IsBitSet, bit_at}
+use Rattle.std.proofs.Common.{◌≡◌, ℕ, ◌+◌, ◌-◌, ◌^◌, ◌<◌, refl, sym, ap, ◌∙◌, arith, inl, inr, bit_and}
+use Rattle.std.specs.Int.{bit_at}
 use Rattle.std.proofs.lemmas.Bool.{cases_lt}
 use Rattle.std.proofs.lemmas.Nat.Bits.{bit_at_ones, bit_at_ones_above}
-use Rattle.gate_word.specs.Words.{round_in, shut_in, bits_in, Has}
-use Rattle.gate_word.specs.Order.{AreIn}
+use Rattle.gate_word.specs.Words.{round_in, shut_in, bits_in}
 use Rattle.gate_word.proofs.BitSets.{set_one, one_set, and-in, in-and}
 use Rattle.part_geometry.specs.Shape.{Shape, IsShape}
-use Rattle.part_geometry.specs.Pieces.{pieces, first_part, need_count, need, Touches}
+use Rattle.part_geometry.specs.Pieces.{pieces, first_part, need_count, need}
 use Rattle.part_geometry.proofs.PieceFacts.{need_count-le}
 use Rattle.pair_core.specs.Words.{bit}
-use Rattle.pair_core.specs.Reading.{laid, IsFull}
+use Rattle.pair_core.specs.Reading.{IsFull}
 use Rattle.pair_core.proofs.Words.{has_bit}
 use Rattle.pair_core.proofs.Cut.{touch_range, range_touch}
 

@@ -1,20 +1,18 @@
 -- A piece whose word isn't full in a round, and is of no later one, wasn't seen full in it before: a word found later has
 -- all the bits that were seen.
-use Rattle.std.proofs.Common.{◌≡◌, ℕ, suc, ◌+◌, ◌-◌, ◌<◌, ◌≤◌, List, [], ◌∷◌, ◌++◌, length, refl, sym, ap, ◌∙◌, subst, arith}
+use Rattle.std.proofs.Common.{◌≡◌, ℕ, ◌-◌, ◌<◌, ◌≤◌, [], ◌∷◌, subst, arith}
 use Rattle.gate_word.specs.Words.{round_in}
 use Rattle.gate_word.specs.Order.{IsLater}
 use Rattle.part_geometry.specs.Shape.{Shape, IsShape}
-use Rattle.part_geometry.specs.Pieces.{pieces, first_part, Touches}
-use Rattle.slot_rows.specs.Lists.{Every}
+use Rattle.part_geometry.specs.Pieces.{pieces, first_part}
 use Rattle.slot_rows.proofs.Acts.{every_split}
-use Rattle.pair_core.specs.Words.{bit}
 use Rattle.pair_core.specs.Names.{Piece}
-use Rattle.pair_core.specs.Reading.{IsFull, laid}
+use Rattle.pair_core.specs.Reading.{IsFull}
 use Rattle.pair_core.proofs.Words.{bit_lt, later_round, later_bit}
 use Rattle.pair_core.proofs.Cut.{bit_small}
 use Rattle.pair_rule.specs.Views.{seen}
 use Rattle.pair_rule.specs.declared.view.View.{View}
-use Rattle.part_recv.specs.Seeing.{Misses, Looks, place_in, first_piece, after_piece}
+use Rattle.part_recv.specs.Seeing.{Misses, place_in, first_piece}
 use Rattle.part_recv.specs.Watching.{IsNew}
 use Rattle.part_recv.proofs.Pieces.{some_pieces}
 

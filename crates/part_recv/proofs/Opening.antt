@@ -1,13 +1,11 @@
 -- A round begins: the return words and then the take words are stored one after another, and the core allows each store.
-use Rattle.std.proofs.Common.{◌≡◌, ℕ, zero, suc, ◌+◌, ◌*◌, ◌<◌, ◌≤◌, inl, inr, Bool, true, false, List, [], ◌∷◌, map, length, refl, sym, ap, ◌∙◌, subst, arith, zero-add, add-one}
-use Rattle.std.proofs.Math.Nat.{suc-add}
+use Rattle.std.proofs.Common.{◌≡◌, ℕ, zero, suc, ◌+◌, ◌*◌, ◌<◌, ◌≤◌, inl, inr, false, List, [], ◌∷◌, length, refl, sym, ap, ◌∙◌, subst, arith, zero-add}
 use Rattle.part_geometry.specs.declared.TheConstants.{LAST_ROUND}
 use Rattle.part_geometry.specs.Shape.{Shape}
 use Rattle.pair_core.specs.Names.{take_words}
 use Rattle.pair_core.specs.Moves.{StoreReturn, StoreTake, IsRecvIdle}
 use Rattle.pair_core.specs.declared.view.RecvSide.{RecvSide}
 use Rattle.slot_rows.specs.declared.lane.Lane.{Lane}
-use Rattle.pair_rule.specs.Views.{stored_return, stored_take}
 use Rattle.pair_rule.specs.Steps.{MayMake}
 use Rattle.pair_rule.specs.Parts.{untaken, fresh_lanes}
 use Rattle.pair_rule.specs.declared.view.View.{View}

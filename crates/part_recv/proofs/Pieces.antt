@@ -1,9 +1,9 @@
 -- The pieces over a receive partition are those from the piece of its first cell to that of its last: pieces count up from
 -- cell to cell by steps of at most 1, so each piece between has a cell of the partition.
-use Rattle.std.proofs.Common.{◌≡◌, ◌↔◌, ℕ, ◌+◌, ◌-◌, ◌<◌, ◌≤◌, ap, arith}
+use Rattle.std.proofs.Common.{◌≡◌, ℕ, ◌+◌, ◌-◌, ◌<◌, ◌≤◌, ap, arith}
 use Rattle.part_geometry.specs.Shape.{Shape, IsShape}
-use Rattle.part_geometry.specs.Cells.{cells, recv_of}
-use Rattle.part_geometry.specs.Pieces.{pieces, piece_of, TouchesRecv}
+use Rattle.part_geometry.specs.Cells.{cells}
+use Rattle.part_geometry.specs.Pieces.{pieces, piece_of}
 use Rattle.part_geometry.proofs.PieceFacts.{piece-ordered}
 use Rattle.part_geometry.proofs.Rows.{row-le, row-below, row-hits, piece-row}
 use Rattle.part_tables.specs.Parts.{first_received}

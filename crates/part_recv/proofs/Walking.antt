@@ -1,6 +1,6 @@
 -- A look at the words of pieces, one after another: what the seat has seen of other words is as before, and of these it has
 -- seen the words found.
-use Rattle.std.proofs.Common.{◌≡◌, ◌≢◌, ℕ, zero, suc, ◌+◌, ◌%◌, ◌<◌, ◌≤◌, List, [], ◌∷◌, ◌++◌, length, get_or, refl, sym, ap, ◌∙◌, subst, arith, inl, inr, add-zero, length-append, length-set, get_or-set_same, get_or-set_other}
+use Rattle.std.proofs.Common.{◌≡◌, ◌≢◌, ℕ, suc, ◌+◌, ◌%◌, ◌<◌, ◌≤◌, List, [], ◌∷◌, ◌++◌, length, get_or, refl, sym, ap, ◌∙◌, subst, arith, inl, inr, add-zero, length-append, length-set, get_or-set_same, get_or-set_other}
 use Rattle.std.proofs.lemmas.Bool.{cases_eq}
 use Rattle.atomic_table.specs.Seated.{TableId}
 use Rattle.gate_word.specs.Order.{IsLater}
@@ -8,10 +8,10 @@ use Rattle.part_geometry.specs.Shape.{Shape}
 use Rattle.part_geometry.specs.Pieces.{pieces}
 use Rattle.slot_rows.specs.Lists.{Every}
 use Rattle.slot_rows.proofs.Acts.{every_append}
-use Rattle.pair_core.specs.Names.{Name, Piece, number}
+use Rattle.pair_core.specs.Names.{Piece, number}
 use Rattle.pair_core.specs.Reading.{IsFull}
 use Rattle.pair_core.specs.State.{word_count}
-use Rattle.pair_core.proofs.Facts.{number_one, number_lt}
+use Rattle.pair_core.proofs.Facts.{number_lt}
 use Rattle.pair_rule.specs.Views.{seen, saw}
 use Rattle.pair_rule.specs.declared.view.View.{View}
 use Rattle.pair_rule.specs.Told.{IsFullStill}

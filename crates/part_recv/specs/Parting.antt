@@ -1,5 +1,5 @@
 -- What a take and a return do to the receive seat and its shelves.
-use Rattle.std.specs.Prelude.{◌≡◌, ℕ, ◌/◌, ◌≤◌, true, false, List, [], replicate, slice_set, Option, Some, None}
+use Rattle.std.specs.Prelude.{◌≡◌, ℕ, ◌/◌, ◌≤◌, true, false, List, [], replicate, slice_set, Some, None}
 use mathlib.Core.Option.{some}
 use lib.ListN.{get_elem?}
 use Rattle.pair_core.specs.Names.{Take, Return}
@@ -24,7 +24,9 @@ pub record PartTaken (may : ℕ → ℕ → ℕ → Type 0) (q : ℕ) (shelf : R
 
 -- the seat after partition q was given back with the buffers of a shelf, which is empty then
 abbrev pub part_returned : ℕ → Room → RecvHeld → RecvHeld
-part_returned q shelf s = record (returned q (seen s.view (Return (q / 32))) s) { shelves = slice_set s.shelves q (Some record { bufs = []; room = shelf.room }) }
+part_returned q shelf s = record (returned q (seen s.view (Return (q / 32))) s) {
+  shelves = slice_set s.shelves q (Some record { bufs = []; room = shelf.room });
+}
 
 -- no lane is out
 abbrev pub AreHome : List Lane → Type 0

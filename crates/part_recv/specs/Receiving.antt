@@ -1,5 +1,6 @@
 -- The receive end as callers see it, its rounds and its tests.
-use Rattle.std.specs.Prelude.{◌≡◌, ℕ, zero, suc, ◌+◌, ◌*◌, ◌<◌, ◌≤◌, Bool, true, false, not, ◌==◌, if◌then◌else◌, List, [], map, position, Option, Some, None, Result, Ok, Err, is_ok}
+use Rattle.std.specs.Prelude.{◌≡◌, ℕ, zero, suc, ◌+◌, ◌*◌, ◌<◌, ◌≤◌, Bool, true, false, not, ◌==◌, if◌then◌else◌}
+use Rattle.std.specs.Prelude.{List, [], map, position, Some, None, Result, Ok, Err, is_ok}
 use Rattle.std.specs.Option.{option_map_or}
 use mathlib.Core.Option.{some}
 use lib.ListN.{get_elem?}
@@ -9,13 +10,12 @@ use Rattle.part_geometry.specs.declared.answers.RecvTest.{RecvTest}
 use Rattle.part_geometry.specs.declared.answers.RecvTest.TheVariants.{Idle, Untaken, Out, Done}
 use Rattle.part_geometry.specs.declared.answers.StartFault.{StartFault}
 use Rattle.part_geometry.specs.declared.answers.StartFault.TheVariants.{AlreadyActive, RoundsSpent}
-use Rattle.part_geometry.specs.Shape.{Shape}
 use Rattle.part_geometry.specs.Cells.{cells}
 use Rattle.pair_core.specs.Names.{take_words}
 use Rattle.pair_core.specs.Moves.{IsRecvIdle, IsRecvActive}
 use Rattle.slot_rows.specs.declared.lane.Lane.{Lane}
 use Rattle.slot_rows.specs.Lanes.{rows_of}
-use Rattle.pair_rule.specs.Seats.{RecvHeld, Room, cells_of}
+use Rattle.pair_rule.specs.Seats.{RecvHeld, cells_of}
 use Rattle.pair_rule.specs.Parts.{place_of}
 use Rattle.pair_rule.specs.Views.{stored_return, stored_take, released}
 use Rattle.pair_rule.specs.declared.view.View.{View}
@@ -85,11 +85,13 @@ started s = record s { view = opened s.view; lanes = all_untaken s.lanes }
 abbrev pub after_start : End → End
 after_start s = if is_ok (start_answer s.view) then started s else s
 
--- a test answers the least partition that isn't taken, else the least that isn't given back, else that the round is released
+-- a test answers the least partition that isn't taken, else the least that isn't given back, else that the round is
+-- released
 abbrev pub test_answer : End → RecvTest
 test_answer s =
     if not (is_active s.view) then Idle else
-    option_map_or Untaken (position (λ (l : Lane). not l.taken) s.lanes) (option_map_or Out (position (λ (l : Lane). l.out) s.lanes) Done)
+    option_map_or Untaken (position (λ (l : Lane). not l.taken) s.lanes)
+    (option_map_or Out (position (λ (l : Lane). l.out) s.lanes) Done)
 
 abbrev pub after_answer : RecvTest → End → End
 after_answer Done s = record s { view = released s.view }

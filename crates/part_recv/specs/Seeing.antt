@@ -31,8 +31,8 @@ looked e i (w ∷ ws) d = looked e (suc i) ws (saw (Piece e i) w d)
 abbrev pub place_in : View → ℕ → ℕ
 place_in d k = k % d.geometry.depth
 
--- A look for round k at the first of the pieces over receive partition q found these words. Each is the one that the seat
--- had last seen, or a later one.
+-- A look for round k at the first of the pieces over receive partition q found these words. Each is the one that the
+-- seat had last seen, or a later one.
 pub record Looks (k q : ℕ) (words : List ℕ) (old new : View) : Type 0 where
   pub view : new ≡ looked (place_in old k) (first_piece old.geometry q) words old
   pub told : Every (λ i w. IsLater (seen old (Piece (place_in old k) i)) w) (first_piece old.geometry q) words

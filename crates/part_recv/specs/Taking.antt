@@ -51,8 +51,8 @@ pub record IsOut (a : Arrived) (s : End) : Type 0 where
 abbrev pub MayLook : ℕ → End → Type 0
 MayLook q s = (is_active s.view ≡ true) × (q < s.view.geometry.recv_parts)
 
--- the end looked at the pieces over partition q, and piece i, with the word w, is the first that isn't full in its round; the
--- end had not seen it full before
+-- the end looked at the pieces over partition q, and piece i, with the word w, is the first that isn't full in its
+-- round; the end had not seen it full before
 pub record Looked (q i w : ℕ) (old new : End) : Type 0 where
   pub view : View
   pub misses : Misses old.view.recv.round q i w old.view view
@@ -85,13 +85,19 @@ IsRefused q (NotYet i w) old new = MayLook q old × HasFlags false false q old.l
 
 -- the end with partition q taken in its round with these bytes, and with q given back
 abbrev pub took : ℕ → List ℕ → End → End
-took q b s = record s { view = taken_from q b (seen s.view (Take (q / 32))) s.view; lanes = flagged true true q s.lanes }
+took q b s = record s {
+  view = taken_from q b (seen s.view (Take (q / 32))) s.view;
+  lanes = flagged true true q s.lanes;
+}
 
 abbrev pub gave_back : ℕ → End → End
-gave_back q s = record s { view = returned_from q (seen s.view (Return (q / 32))) s.view; lanes = flagged true false q s.lanes }
+gave_back q s = record s {
+  view = returned_from q (seen s.view (Return (q / 32))) s.view;
+  lanes = flagged true false q s.lanes;
+}
 
--- Partition q was taken: all its pieces were seen full in the end's round, and it wasn't taken before. The take has the bytes
--- of the arrival, as many as the partition has, each allowed at its place.
+-- Partition q was taken: all its pieces were seen full in the end's round, and it wasn't taken before. The take has
+-- the bytes of the arrival, as many as the partition has, each allowed at its place.
 pub record Takes (may : ℕ → ℕ → ℕ → Type 0) (q : ℕ) (a : Arrived) (old new : End) : Type 0 where
   pub active : MayLook q old
   pub free : HasFlags false false q old.lanes
@@ -100,4 +106,5 @@ pub record Takes (may : ℕ → ℕ → ℕ → Type 0) (q : ℕ) (a : Arrived) 
   pub arrival : a ≡ record { geometry = old.view.geometry; round = old.view.recv.round; partition = q; bytes = a.bytes }
   pub end : new ≡ took q a.bytes at
   pub long : length a.bytes ≡ old.view.geometry.recv_bytes
-  pub allowed : (j : ℕ) → j < length a.bytes → may old.view.recv.round (q * old.view.geometry.recv_bytes + j) (slice_index a.bytes j)
+  pub allowed : (j : ℕ) → j < length a.bytes
+      → may old.view.recv.round (q * old.view.geometry.recv_bytes + j) (slice_index a.bytes j)

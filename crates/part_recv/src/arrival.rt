@@ -7,9 +7,9 @@ use pair_rule::{Content, Shelf};
 use part_geometry::Geometry;
 use std::marker::{Model, PhantomData};
 
-/// The bytes of one receive partition in one round, with the buffers that have them, owned by whoever took them. It may be
-/// moved to another thread. Where it is dropped the partition stays out. Contracts see the round, the partition and the
-/// bytes.
+/// The bytes of one receive partition in one round, with the buffers that have them, owned by whoever took them. It
+/// may be moved to another thread. Where it is dropped the partition stays out. Contracts see the round, the
+/// partition and the bytes.
 pub struct Arrival<C: Content> {
     geometry: Geometry,
     round: u32,
@@ -23,7 +23,12 @@ impl<C: Content> Model for Arrival<C> {
 
     ghost Value = { Arrived };
 
-    ghost view = { λ a. record { geometry = a.geometry; round = a.round; partition = a.partition; bytes = bytes_in a.shelf.bufs } };
+    ghost view = { λ a. record {
+      geometry = a.geometry;
+      round = a.round;
+      partition = a.partition;
+      bytes = bytes_in a.shelf.bufs;
+    } };
 
     ghost invariant = { λ a. IsArrival a.geometry a.round a.partition a.shelf };
 }
@@ -32,7 +37,12 @@ impl<C: Content> Arrival<C> {
     /// What a shelf has of a partition and a round.
     pub(crate) fn of(geometry: Geometry, round: u32, partition: u32, shelf: Shelf) -> Arrival<C>
         requires { IsArrival geometry round partition shelf }
-        ensures { result ≡ record { geometry = geometry; round = round; partition = partition; bytes = bytes_in shelf.bufs } }
+        ensures { result ≡ record {
+          geometry = geometry;
+          round = round;
+          partition = partition;
+          bytes = bytes_in shelf.bufs;
+        } }
     {
         Arrival {
             geometry,

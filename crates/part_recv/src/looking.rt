@@ -23,6 +23,7 @@ fn is_full(tables: &Tables, word: u64, round: u32, i: usize) -> bool
     requires { i < pieces tables.now }
     ensures { IsTrue result ↔ IsFull tables.now word round i }
 {
+    // What the seat or the tables say of themselves, for the proof.
     let _geometry = tables.geometry();
     let need = tables.need(i);
     round_of(word) == round && need & bits_of(word) == need
@@ -34,7 +35,9 @@ fn pieces_over(tables: &Tables, q: u32) -> (u32, u32)
     ensures value { result ≡ (first_piece tables.now q, after_piece tables.now q) }
     ensures inside { (result.0 < result.1) × (result.1 ≤ pieces tables.now) }
 {
+    // What the seat or the tables say of themselves, for the proof.
     let _geometry = tables.geometry();
+    // What the seat or the tables say of themselves, for the proof.
     let _few = tables.pieces();
     let (first, after) = tables.received(q as usize);
     (tables.cell(first).piece, tables.cell(after - 1).piece + 1)

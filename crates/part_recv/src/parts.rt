@@ -19,6 +19,7 @@ pub(crate) fn take_part<C: Content>(pair: &Pair<C>, seat: &mut RecvSeat<C>, q: u
     requires shelf { HasShelf q seat.old }
     ensures { PartTaken (C.may pair.now.key.tag) q result seat.old seat.new }
 {
+    // What the seat or the tables say of themselves, for the proof.
     let _lanes = seat.lanes();
     let place = pair.tables().place(seat.round()) as u32;
     let mut shelf = seat.take_shelf(q);
@@ -39,9 +40,11 @@ pub(crate) fn return_part<C: Content>(
     requires flags { HasFlags true true q seat.old.lanes }
     requires out { HasOut (place_of seat.old.view) q (replicate (cells_of seat.old.view.geometry q) None) seat.old }
     requires full { length shelf.bufs ≡ cells_of seat.old.view.geometry q }
-    requires of { AreOf seat.old.view.geometry seat.old.view.recv.round (first_received seat.old.view.geometry q) shelf.bufs }
+    requires of { AreOf seat.old.view.geometry seat.old.view.recv.round
+        (first_received seat.old.view.geometry q) shelf.bufs }
     ensures { seat.new ≡ part_returned q shelf seat.old }
 {
+    // What the seat or the tables say of themselves, for the proof.
     let _lanes = seat.lanes();
     let place = pair.tables().place(seat.round()) as u32;
     pair.put_all(seat, place, q, &mut shelf);

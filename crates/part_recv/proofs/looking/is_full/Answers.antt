@@ -1,7 +1,6 @@
-use Rattle.std.proofs.Common.{◌≡◌, ℕ, bit_and, sym, ap, ◌∙◌, subst}
+use Rattle.std.proofs.Common.{◌≡◌, bit_and, sym, ◌∙◌}
 use Rattle.std.proofs.lemmas.Bool.{eq-eqb, eqb-true}
 use Rattle.gate_word.specs.Words.{bits_in}
-use Rattle.part_geometry.specs.Shape.{IsShape}
 use Rattle.part_geometry.specs.Pieces.{need}
 use Rattle.part_recv.proofs.Masks.{mask_full, full_mask}
 use Rattle.part_recv.proofs.looking.is_full.Goals as goal

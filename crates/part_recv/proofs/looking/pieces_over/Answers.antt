@@ -1,5 +1,5 @@
-use Rattle.std.proofs.Common.{◌≡◌, ℕ, ◌∙◌, ◌+◌, ◌-◌, sym, ap, subst, arith}
-use Rattle.part_geometry.specs.Pieces.{pieces, piece_of}
+use Rattle.std.proofs.Common.{◌≡◌, ℕ, ◌∙◌, ◌+◌, ◌-◌, ap, arith}
+use Rattle.part_geometry.specs.Pieces.{piece_of}
 use Rattle.part_geometry.specs.declared.walk.Cell.{Cell}
 use Rattle.part_recv.specs.Seeing.{first_piece, after_piece}
 use Rattle.part_recv.proofs.Pieces.{some_pieces}

@@ -1,4 +1,4 @@
-use Rattle.std.proofs.Common.{◌≡◌, ℕ, ◌/◌, ◌%◌, [], set, List, Option, Some, sym, ap, ◌∙◌, subst}
+use Rattle.std.proofs.Common.{◌≡◌, ◌/◌, ◌%◌, [], set, List, Option, Some, sym, ap, ◌∙◌, subst}
 use Rattle.pair_core.specs.Names.{Return}
 use Rattle.pair_rule.specs.Views.{seen}
 use Rattle.pair_rule.specs.Seats.{RecvHeld, Room}

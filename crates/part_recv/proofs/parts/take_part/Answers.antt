@@ -1,8 +1,7 @@
-use Rattle.std.proofs.Common.{◌≡◌, ℕ, ◌/◌, ◌%◌, ◌<◌, ◌≤◌, set, Some, None, sym, ap, ◌∙◌, subst, arith, refl}
-use Rattle.part_geometry.specs.Shape.{Shape}
+use Rattle.std.proofs.Common.{◌≡◌, ◌/◌, ◌%◌, set, None, sym, ap, ◌∙◌, subst, arith, refl}
 use Rattle.pair_core.specs.Names.{Take}
 use Rattle.pair_rule.specs.Views.{seen}
-use Rattle.pair_rule.specs.Seats.{RecvHeld, Room, cells_of}
+use Rattle.pair_rule.specs.Seats.{RecvHeld, Room}
 use Rattle.pair_rule.specs.Parts.{HasTaken, place_of}
 use Rattle.part_recv.proofs.Lending.{shelf_one, taken_flags, taken_values, lent_seat, lent_are}
 use Rattle.part_recv.proofs.parts.take_part.Goals as goal

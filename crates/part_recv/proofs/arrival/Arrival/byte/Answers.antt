@@ -1,4 +1,4 @@
-use Rattle.std.proofs.Common.{◌≡◌, ℕ, ◌+◌, ◌-◌, ◌<◌, ◌≤◌, List, length, get_or, sym, ap, ◌∙◌, subst, arith}
+use Rattle.std.proofs.Common.{ℕ, ◌+◌, ◌-◌, ◌<◌, ◌≤◌, length, get_or, sym, ap, ◌∙◌, subst, arith}
 use Rattle.part_recv.specs.Taking.{Arrived}
 use Rattle.part_recv.proofs.Bytes.{IsByte, byte_here, byte_next}
 use Rattle.part_recv.proofs.arrival.Arrival.byte.Goals as goal

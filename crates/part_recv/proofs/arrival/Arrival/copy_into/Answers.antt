@@ -1,4 +1,4 @@
-use Rattle.std.proofs.Common.{◌≡◌, ℕ, ◌+◌, ◌-◌, ◌<◌, ◌≤◌, List, ◌++◌, length, take, sym, ap, ◌∙◌, subst, arith, length-append}
+use Rattle.std.proofs.Common.{◌≡◌, ◌+◌, ◌≤◌, ◌++◌, length, take, sym, ap, ◌∙◌, arith, length-append}
 use Rattle.part_recv.specs.Taking.{Arrived, bytes_in}
 use Rattle.part_recv.proofs.Bytes.{bytes_upto, bytes_few, copied_more}
 use Rattle.part_recv.proofs.arrival.Arrival.copy_into.Goals as goal

@@ -1,4 +1,4 @@
-use Rattle.std.proofs.Common.{◌≡◌, ℕ, ◌<◌, ◌≤◌, true, List, length, sym, ap, ◌∙◌, subst}
+use Rattle.std.proofs.Common.{ℕ, ◌<◌, ◌≤◌, true, List, length, sym, ap, ◌∙◌, subst}
 use Rattle.part_geometry.specs.Shape.{Shape}
 use Rattle.pair_core.specs.Moves.{ReturnPart, IsRecvActive}
 use Rattle.slot_rows.specs.declared.lane.Lane.{Lane}
@@ -35,4 +35,4 @@ invariant_of-self g c =
     let room : cells_of s.view.geometry q ≤ c.into_shelf.result.room =
     subst (λ (z : Shape × ℕ). cells_of z.0 z.1 ≤ c.into_shelf.result.room) (λ i. ((c.requires.out.geometry ∙ ap (λ (z : End). z.view.geometry) (sym c.self.view_is)) i, sym c.partition-q.ensures i)) c.into_shelf.ensures.room in
     subst (λ (z : RecvHeld). IsEnd c.self.inside.active c.self.inside.watchers z) (sym c.return_part.ensures)
-      (end_returns c.self.inside.active c.self.inside.watchers q s c.lanes-lanes.ensures.kept h c.self.invariant c.into_shelf.result c.lanes-lanes.ensures.shelves room)
+    (end_returns c.self.inside.active c.self.inside.watchers q s c.lanes-lanes.ensures.kept h c.self.invariant c.into_shelf.result c.lanes-lanes.ensures.shelves room)

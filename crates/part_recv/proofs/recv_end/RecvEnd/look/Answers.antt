@@ -1,4 +1,4 @@
-use Rattle.std.proofs.Common.{◌≡◌, sym, ap, ◌∙◌, subst}
+use Rattle.std.proofs.Common.{sym, ap, ◌∙◌, subst}
 use Rattle.pair_rule.specs.Seats.{RecvHeld}
 use Rattle.part_recv.specs.Receiving.{End, IsEnd, is_active}
 use Rattle.part_recv.proofs.Ending.{side_active}
@@ -9,7 +9,7 @@ pub invariant_of-self : goal.invariant_of-self
 invariant_of-self g c =
     let f = c.look_over.ensures.found in
     subst (λ (z : RecvHeld). IsEnd c.self.inside.active c.self.inside.watchers z) (sym f.1)
-      (found_keeps c.round-round.result c.args.q c.look_over.result c.self.inside.seat f.0 c.self.inside.active c.self.inside.watchers f.2 c.self.invariant)
+    (found_keeps c.round-round.result c.args.q c.look_over.result c.self.inside.seat f.0 c.self.inside.active c.self.inside.watchers f.2 c.self.invariant)
 
 pub returns : goal.returns
 returns g c =

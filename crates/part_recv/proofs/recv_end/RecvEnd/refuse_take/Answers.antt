@@ -1,13 +1,11 @@
-use Rattle.std.proofs.Common.{◌≡◌, ℕ, ◌<◌, ◌≤◌, true, false, List, length, refl, sym, ap, ◌∙◌, subst, arith}
+use Rattle.std.proofs.Common.{◌≡◌, ◌<◌, true, false, List, length, refl, sym, ap, ◌∙◌, subst, arith}
 use Rattle.part_geometry.specs.Shape.{Shape}
 use Rattle.pair_core.specs.Moves.{IsRecvActive}
 use Rattle.pair_rule.specs.Seats.{RecvHeld}
 use Rattle.slot_rows.specs.Lanes.{HasFlags}
 use Rattle.slot_rows.specs.declared.lane.Lane.{Lane}
-use mathlib.Core.Option.{some}
 use lib.ListN.{get_elem?}
 use Rattle.part_recv.specs.Receiving.{End, is_active}
-use Rattle.part_recv.specs.Taking.{MayLook}
 use Rattle.part_recv.proofs.Ending.{side_flag, side_active, free_flags}
 use Rattle.part_recv.proofs.recv_end.RecvEnd.refuse_take.Goals as goal
 
@@ -17,10 +15,12 @@ returns-then-is_taken g c =
     let on : is_active c.args.self.now.view ≡ true = ap (λ (z : End). is_active z.view) (sym c.self.view_is) ∙ (side_flag c.self.inside.active s.view c.self.invariant.side ∙ c.if-not-self.false) in
     let same = ap (λ (z : Shape). z.recv_parts) (c.geometry.ensures.value ∙ sym c.requires.pair.1) in
     let part : c.args.q < c.args.self.now.view.geometry.recv_parts = let a = c.recv_parts.ensures.value in let b = c.if-q-recv_parts.false in omega arith in
-    let l = c.is_taken.ensures in
-    ((on, part),
-    (l.0, ap (λ (z : List Lane). get_elem? z c.args.q) (sym (c.lanes.ensures.value ∙ ap (λ (z : End). z.lanes) c.self.view_is)) ∙ l.1, l.2 ∙ c.if-is_taken.true),
-    c.round-round.ensures ∙ ap (λ (z : End). z.view.recv.round) c.self.view_is, refl)
+    let l = c.is_taken.ensures in (
+      (on, part),
+      (l.0, ap (λ (z : List Lane). get_elem? z c.args.q) (sym (c.lanes.ensures.value ∙ ap (λ (z : End). z.lanes) c.self.view_is)) ∙ l.1, l.2 ∙ c.if-is_taken.true),
+      c.round-round.ensures ∙ ap (λ (z : End). z.view.recv.round) c.self.view_is,
+      refl,
+    )
 
 pub returns-in_default : goal.returns-in_default
 returns-in_default g c =

@@ -1,4 +1,4 @@
-use Rattle.std.proofs.Common.{◌≡◌, ℕ, ◌+◌, ◌%◌, ◌<◌, ◌≤◌, ◌==◌, true, false, [], List, length, sym, ap, ◌∙◌, subst, arith, refl}
+use Rattle.std.proofs.Common.{◌≡◌, ℕ, ◌%◌, ◌<◌, ◌==◌, true, false, [], List, length, sym, ap, ◌∙◌, subst, arith}
 use Rattle.part_geometry.specs.Shape.{Shape, IsShape}
 use Rattle.pair_core.specs.Moves.{TakePart, IsRecvActive}
 use Rattle.pair_core.specs.declared.view.RecvSide.{RecvSide}
@@ -7,7 +7,7 @@ use Rattle.slot_rows.specs.declared.lane.Lane.{Lane}
 use Rattle.pair_rule.specs.Seats.{RecvHeld}
 use Rattle.pair_rule.specs.Steps.{MayMake}
 use Rattle.part_recv.specs.Receiving.{End, is_active, end_of}
-use Rattle.part_recv.specs.Taking.{Arrived, IsArrival, LookedAll, bytes_in}
+use Rattle.part_recv.specs.Taking.{IsArrival, LookedAll, bytes_in}
 use Rattle.part_recv.proofs.Ending.{side_active, free_bit, end_takes}
 use Rattle.part_recv.proofs.Arriving.{same_geometry, same_recv, same_lanes, same_round, are_seen, arrived, arrival_is, taken_says, taken_out}
 use Rattle.part_recv.proofs.recv_end.RecvEnd.take.Goals as goal
@@ -45,7 +45,7 @@ of-requires g c =
     let shape : o.view.geometry ≡ c.geometry-geometry.result = c.requires.pair.1 ∙ sym c.geometry-geometry.ensures.value in
     let round : o.view.recv.round ≡ c.round-round.result = sym (same_round q s o looks) ∙ sym c.round-round.ensures in
     subst (λ (z : Shape × ℕ). IsArrival z.0 z.1 q c.take_part-shelf.result) (λ i. (shape i, round i))
-      (arrival_is q s o looks _ c.take_part-shelf.result c.take_part-shelf.new.seat c.take_part-shelf.ensures c.in_ok-refuse_take.ensures.0.1)
+    (arrival_is q s o looks _ c.take_part-shelf.result c.take_part-shelf.new.seat c.take_part-shelf.ensures c.in_ok-refuse_take.ensures.0.1)
 
 pub invariant_of-self : goal.invariant_of-self
 invariant_of-self g c =

@@ -1,13 +1,12 @@
-use Rattle.std.proofs.Common.{◌≡◌, ℕ, ◌<◌, true, false, not, None, Some, List, length, sym, ap, ◌∙◌, subst, refl}
+use Rattle.std.proofs.Common.{◌≡◌, ℕ, ◌<◌, true, false, not, None, Some, List, length, sym, ap, ◌∙◌, subst}
 use Rattle.std.specs.List.{position}
 use Rattle.pair_core.specs.Moves.{StoreRelease, IsRecvActive}
 use Rattle.slot_rows.specs.Lanes.{HasFlags}
 use Rattle.slot_rows.specs.declared.lane.Lane.{Lane}
 use Rattle.pair_rule.specs.Seats.{RecvHeld}
 use Rattle.pair_rule.specs.Steps.{MayMake}
-use Rattle.pair_rule.specs.Views.{released}
 use Rattle.part_geometry.specs.declared.answers.RecvTest.{RecvTest}
-use Rattle.part_recv.specs.Receiving.{End, is_active, end_of, after_answer, after_test, test_answer}
+use Rattle.part_recv.specs.Receiving.{is_active, end_of, after_answer, after_test, test_answer}
 use Rattle.part_recv.proofs.Lending.{lane_at}
 use Rattle.part_recv.proofs.Ending.{side_flag, side_active, taken_bit, back_bit}
 use Rattle.part_recv.proofs.Testing.{none_passes, all_taken, test_out, test_done}

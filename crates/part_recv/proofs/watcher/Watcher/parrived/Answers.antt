@@ -1,4 +1,4 @@
-use Rattle.std.proofs.Common.{◌≡◌, ℕ, ◌<◌, ◌≤◌, ◌∙◌, sym, ap, subst, arith}
+use Rattle.std.proofs.Common.{◌≡◌, ◌<◌, ◌≤◌, ◌∙◌, sym, ap, subst, arith}
 use Rattle.gate_word.specs.Words.{round_in}
 use Rattle.part_geometry.specs.Shape.{Shape, IsShape}
 use Rattle.pair_rule.specs.Seats.{Held}
