@@ -65,7 +65,7 @@ lanes_seeing d words often made watchers n ls size same lanes = record {
 }
 
 -- the word y is as it was seen before the look at x
-seen_else : (d : View) (x y : Name) (w : ℕ) → Fits d.geometry x → Fits d.geometry y → y ≢ x → seen (saw x w d) y ≡ seen d y
+pub seen_else : (d : View) (x y : Name) (w : ℕ) → Fits d.geometry x → Fits d.geometry y → y ≢ x → seen (saw x w d) y ≡ seen d y
 seen_else d x y w fits there other =
     get_or-set_other d.seen (number d.geometry x) (number d.geometry y) w 0 (λ e. other (number_one d.geometry y x there fits e))
 

@@ -23,3 +23,4 @@ pub mod Rows
 pub mod LanesStay
 pub mod MarkSeats
 pub mod Starting
+pub mod SendViews

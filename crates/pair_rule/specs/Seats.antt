@@ -5,9 +5,10 @@ use mathlib.Core.Option.{some}
 use lib.ListN.{get_elem?}
 use Rattle.std.specs.List.{range_with_len}
 use Rattle.atomic_table.specs.Seated.{TableId}
+use Rattle.gate_word.specs.Words.{round_in}
 use Rattle.part_geometry.specs.Shape.{Shape}
 use Rattle.part_tables.specs.Parts.{first_received}
-use Rattle.pair_core.specs.Names.{Take, Return, take_words}
+use Rattle.pair_core.specs.Names.{Release, Take, Return, take_words}
 use Rattle.pair_core.specs.Reading.{part_bit}
 use Rattle.pair_core.specs.Moves.{IsRecvActive}
 use Rattle.pair_core.specs.State.{word_count}
@@ -29,6 +30,14 @@ pub record PairOf (T : Type 0) : Type 0 where
 pub record Held : Type 0 where
   pub table : TableId
   pub view : View
+
+-- what holds of the send side's view: it shuts a round only where it has seen room for the next one
+pub record IsSendView (d : View) : Type 0 where
+  pub number : d.number ≡ 0
+  pub words : length d.seen ≡ word_count d.geometry
+  pub counts : length d.looks ≡ word_count d.geometry
+  pub limit : d.send.round ≤ LAST_ROUND
+  pub room : 1 ≤ d.send.shut → d.send.round < round_in (seen d Release) + d.geometry.depth
 
 -- a marking seat also has the slots that are out with it: so many, numbered from the first on, each with its buffer or
 -- empty

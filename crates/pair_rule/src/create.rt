@@ -61,6 +61,7 @@ impl<C: Content> Pair<C> {
         let recv = table.shared.split_seat::<Receives>(&mut send);
         let send = SendSeat {
             seat: send,
+            round: 0,
             content: PhantomData,
         };
         let recv = RecvSeat {

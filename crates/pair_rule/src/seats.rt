@@ -12,12 +12,13 @@ use std::marker::{Model, PhantomData};
 /// The seat of the send side, the only one that starts and ends its rounds. Contracts see its table and its view.
 pub struct SendSeat<C: Content> {
     pub(crate) seat: Place,
+    pub(crate) round: u32,
     pub(crate) content: PhantomData<C>,
 }
 
 impl<C: Content> Model for SendSeat<C> {
     ghost use Rattle.std.specs.Prelude.{◌≡◌, [], false};
-    ghost use Rattle.pair_rule.specs.Seats.{Held};
+    ghost use Rattle.pair_rule.specs.Seats.{Held, IsSendView};
     ghost use Rattle.pair_rule.specs.declared.view.Standing.TheVariants.{Seated};
 
     ghost Value = { Held };
@@ -25,7 +26,7 @@ impl<C: Content> Model for SendSeat<C> {
     ghost view = { λ s. record { table = s.seat.table_id; view = s.seat.me.0 } };
 
     ghost invariant = { λ s. (s.seat.me.0.standing ≡ Seated) × (s.seat.me.0.number ≡ 0) × (s.seat.me.1 ≡ [])
-        × (s.seat.me.0.alone ≡ false) };
+        × (s.seat.me.0.alone ≡ false) × IsSendView s.seat.me.0 × (s.round ≡ s.seat.me.0.send.round) };
 }
 
 /// The seat of a thread that marks. While a claim of it pends, slots of the claimed partition are out with it: `count` of
@@ -176,14 +177,27 @@ impl<C: Content> Model for Note<C> {
 
 impl<C: Content> SendSeat<C> {
     ghost use Rattle.std.specs.Prelude.{false};
+    ghost use Rattle.pair_rule.specs.Seats.{IsSendView};
     ghost use Rattle.pair_rule.specs.declared.view.Standing.TheVariants.{Seated};
+
+    /// The send side's round, 0 before the first.
+    pub fn round(&self) -> u32
+        ensures value { result ≡ self.now.view.send.round }
+        ensures view { IsSendView self.now.view }
+    {
+        self.round
+    }
 
     /// The seat of the table alone.
     pub(crate) fn into_place(self) -> Place
         ensures place { (result.table_id ≡ self.table) × (result.me ≡ (self.view, [])) }
         ensures live { (self.view.standing ≡ Seated) × (self.view.number ≡ 0) × (self.view.alone ≡ false) }
     {
-        let SendSeat { seat, content: _ } = self;
+        let SendSeat {
+            seat,
+            round: _,
+            content: _,
+        } = self;
         seat
     }
 }
@@ -259,6 +273,7 @@ impl<C: Content> Drop for SendSeat<C> {
     fn drop(self) {
         let SendSeat {
             seat: _,
+            round: _,
             content: _,
         } = self;
     }

@@ -42,6 +42,7 @@ impl<C: Content> Pair<C> {
         ensures step { seat.new ≡ record seat.old { view = stored_piece round piece seat.old.view } }
     {
         self.store_piece_as::<Brand>(&mut seat.seat, round, piece);
+        seat.round = round;
     }
 
     fn store_claim_as<X: Numbers>(&self, seat: &mut Place, round: u32, word: u32)

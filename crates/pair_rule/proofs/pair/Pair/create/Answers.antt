@@ -5,7 +5,7 @@ use Rattle.part_geometry.specs.Shape.{Shape, IsShape}
 use Rattle.part_geometry.specs.Cells.{cells}
 use Rattle.pair_core.specs.State.{word_count}
 use Rattle.pair_rule.specs.Buf.{Buf}
-use Rattle.pair_rule.specs.First.{first_words, first_bufs, first_view, receiver}
+use Rattle.pair_rule.specs.First.{first_words, first_bufs, first_view, in_company, receiver}
 use Rattle.pair_rule.specs.Parts.{first_lanes, first_shelves, first_shelf}
 use Rattle.pair_rule.specs.Rule.{Holds}
 use Rattle.pair_rule.specs.Seats.{AreLanes}
@@ -16,6 +16,7 @@ use Rattle.pair_rule.proofs.Core.{laws}
 use Rattle.pair_rule.proofs.FirstFacts.{first_words-length}
 use Rattle.pair_rule.proofs.Splitting.{receiver_splits}
 use Rattle.pair_rule.proofs.Starting.{starts, first_bufs-length, first_are_lanes}
+use Rattle.pair_rule.proofs.SendViews.{IsSending, first_send}
 use Rattle.pair_rule.proofs.pair.Pair.create.Goals as goal
 
 pub new-made-requires : goal.new-made-requires
@@ -41,6 +42,14 @@ split_seat-recv-requires g c =
       receiver_splits g.C.Content.may key (laws key.geometry shape) c.in-Ok.send.id c.in-Ok.send.me.0
           (ap (λ m. m.0.standing) me) (ap (λ m. m.0.number) me) (ap (λ m. m.0.alone) me),
     )
+
+pub invariant_of-send : goal.invariant_of-send
+invariant_of-send g c =
+    let G = c.args.geometry in let same = c.in_ok-tables.ensures in
+    let shape : IsShape G = subst IsShape (c.tables.view_is ∙ same) c.tables.invariant.shape in
+    let me : c.split_seat-recv.new.seat.me ≡ (in_company (first_view G), []) = c.split_seat-recv.ensures.2
+    ∙ ap (λ (m : Me (Option Buf) View). (in_company m.0, m.1)) c.in-Ok.ensures.ok.4 in
+    subst (IsSending 0) (sym me) (refl, refl, refl, refl, first_send G shape, refl)
 
 pub invariant_of-recv : goal.invariant_of-recv
 invariant_of-recv g c =

@@ -10,6 +10,7 @@ use Rattle.pair_rule.specs.declared.view.View.{View}
 use Rattle.pair_rule.proofs.Core.{laws}
 use Rattle.pair_rule.proofs.Calls.{asked}
 use Rattle.pair_rule.proofs.SideSteps.{load_release_leads}
+use Rattle.pair_rule.proofs.SendViews.{IsSending, send_learns}
 use Rattle.pair_rule.proofs.pair.Pair.load_release.Goals as goal
 
 pub load-requires : goal.load-requires
@@ -21,3 +22,8 @@ load-requires g c =
     (λ n. n) (λ n. n) (λ n e. view.saw Release n e) (λ n e. Learns e Release n) (step t.table_id.slots c.release_word-index.result 0 0 none)
     (subst (λ z. IsOf z.table z.view c.args.self.now) (sym c.seat.view_is) c.requires.pair) c.seat.invariant.0 c.release_word-index.ensures.value tt
     (λ s r there. let led = load_release_leads may key L s r seat.id d there c.seat.invariant.0 _ refl c.seat.invariant.1 in (_, led.0, led.1))
+
+pub invariant_of-seat : goal.invariant_of-seat
+invariant_of-seat g c =
+    let me = c.seat.inside.seat.me in let i = c.seat.invariant in let e = c.load.ensures in
+    subst (IsSending c.seat.inside.round) (sym e.2.0) (i.0, i.1, i.2, i.3, send_learns me.0 c.load.result e.2.1.later i.4, i.5)
