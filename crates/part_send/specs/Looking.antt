@@ -1,7 +1,7 @@
 -- What a call that looks at words leaves.
 use Rattle.std.specs.Prelude.{◌≡◌, ℕ, ◌+◌, ◌<◌, slice_set}
 use Rattle.gate_word.specs.Order.{IsLater}
-use Rattle.pair_core.specs.Names.{Name, Fits, number}
+use Rattle.pair_core.specs.Names.{Name, number}
 use Rattle.pair_rule.specs.Views.{seen, looks}
 use Rattle.pair_rule.specs.declared.view.View.{View}
 
@@ -18,4 +18,4 @@ pub record HasSeen (old new : View) (x : Name) (w : ℕ) : Type 0 where
 -- the seat looked at words and did nothing else, and no word that it has seen went back
 pub record OnlyLooked (old new : View) : Type 0 where
   pub same : new ≡ record old { seen = new.seen; looks = new.looks }
-  pub rises : (x : Name) → Fits old.geometry x → IsLater (seen old x) (seen new x)
+  pub rises : (x : Name) → IsLater (seen old x) (seen new x)

@@ -1,10 +1,10 @@
 //! The send end.
 
-ghost use Rattle.std.specs.Prelude.{◌≡◌, ◌<◌, ◌≤◌, ◌^◌, true, false, IsTrue};
+ghost use Rattle.std.specs.Prelude.{◌≡◌, ◌-◌, ◌<◌, ◌≤◌, ◌^◌, true, false};
 ghost use Rattle.part_geometry.specs.declared.TheConstants.{LAST_ROUND};
 ghost use Rattle.pair_core.specs.Moves.{IsSendActive, IsSendIdle};
 ghost use Rattle.pair_rule.specs.First.{with_marker, marker, with_marker_back, note};
-ghost use Rattle.pair_rule.specs.Told.{KnowsMarks};
+ghost use Rattle.pair_rule.specs.Told.{AreOpen, KnowsMarks};
 ghost use Rattle.pair_rule.specs.Seats.{IsOf};
 ghost use Rattle.part_send.specs.Ends.{is_active};
 
@@ -106,7 +106,8 @@ impl<C: Content> SendEnd<C> {
         requires pair { IsOf self.old.table self.old.view pair.now }
         requires same { marker.table ≡ self.old.table }
         ensures end { self.new ≡ record self.old { view = with_marker_back self.old.view marker.view } }
-        ensures told { self.new.view.send.markers ≡ 0 → is_active self.new.view ≡ true → KnowsMarks self.new.view }
+        ensures opened { is_active self.new.view ≡ true → AreOpen self.new.view }
+        ensures known { is_active self.new.view ≡ true → self.new.view.send.markers ≡ 0 → KnowsMarks self.new.view }
     {
         pair.join_marker(&mut self.seat, marker.into_seat());
         self.out = self.out.saturating_sub(1);

@@ -11,7 +11,6 @@ use gate_word::{bits_of, round_of};
 use part_tables::Tables;
 
 /// Whether a word of piece `i` is full in a round: it has the bit of each send partition that the piece touches.
-#[tactic(auto, using(crate::proofs::Masks::full_masked))]
 pub(crate) fn is_full(tables: &Tables, word: u64, round: u32, i: usize) -> bool
     requires { i < pieces tables.now }
     ensures { result ≡ is_full tables.now word round i }
@@ -39,11 +38,10 @@ pub(crate) fn least_lacking(word: u64, c: u32, parts: u32) -> Option<u32>
         (λ p. (p < parts) × (p / 32 ≡ c) × (bit word (p % 32) ≡ 0)
             × ((j : ℕ) → j < p → j / 32 ≡ c → bit word (j % 32) ≡ 1)) }
 {
-    let set = bits_of(word).trailing_ones();
-    let least = 32 * c + set;
-    if set < 32 && least < parts {
-        Some(least)
-    } else {
-        None
+    let bits = bits_of(word);
+    if bits == u32::MAX {
+        return None;
     }
+    let least = 32 * c + bits.trailing_ones();
+    if least < parts { Some(least) } else { None }
 }

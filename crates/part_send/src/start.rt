@@ -28,7 +28,9 @@ fn store_pieces<C: Content>(seat: &mut SendSeat<C>, pair: &Pair<C>, round: u32)
     requires idle { IsSendIdle seat.old.view.geometry seat.old.view.send }
     requires next { round ≡ seat.old.view.send.round + 1 }
     requires limit { round ≤ LAST_ROUND }
-    ensures { seat.new ≡ record seat.old { view = pieces_stored round (pieces seat.old.view.geometry) seat.old.view } }
+    ensures seat { seat.new ≡ record seat.old { view = pieces_stored round (pieces seat.old.view.geometry) seat.old.view } }
+    ensures geometry { seat.new.view.geometry ≡ seat.old.view.geometry }
+    ensures side { seat.new.view.send ≡ record { round = round; pieces = pieces seat.old.view.geometry; opened = 0; shut = 0; markers = seat.old.view.send.markers } }
 {
     let _geometry = pair.geometry();
     let _round = seat.round();
@@ -45,7 +47,9 @@ fn store_claims<C: Content>(seat: &mut SendSeat<C>, pair: &Pair<C>, round: u32)
     requires pieces { seat.old.view.send.pieces ≡ pieces seat.old.view.geometry }
     requires opened { seat.old.view.send.opened ≡ 0 }
     requires limit { round ≤ LAST_ROUND }
-    ensures { seat.new ≡ record seat.old { view = claims_stored (claim_words seat.old.view.geometry) seat.old.view } }
+    ensures seat { seat.new ≡ record seat.old { view = claims_stored (claim_words seat.old.view.geometry) seat.old.view } }
+    ensures geometry { seat.new.view.geometry ≡ seat.old.view.geometry }
+    ensures side { seat.new.view.send ≡ record seat.old.view.send { opened = claim_words seat.old.view.geometry } }
 {
     let _round = seat.round();
     for c in 0..claim_words(pair) {
