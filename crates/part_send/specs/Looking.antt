@@ -1,5 +1,5 @@
 -- What a call that looks at words leaves.
-use Rattle.std.specs.Prelude.{◌≡◌, ℕ, ◌+◌, ◌<◌, slice_set}
+use Rattle.std.specs.Prelude.{◌≡◌, ℕ, ◌+◌, ◌<◌, ◌≤◌, slice_set}
 use Rattle.gate_word.specs.Order.{IsLater}
 use Rattle.pair_core.specs.Names.{Name, number}
 use Rattle.pair_rule.specs.Views.{seen, looks}
@@ -19,3 +19,4 @@ pub record HasSeen (old new : View) (x : Name) (w : ℕ) : Type 0 where
 pub record OnlyLooked (old new : View) : Type 0 where
   pub same : new ≡ record old { seen = new.seen; looks = new.looks }
   pub rises : (x : Name) → IsLater (seen old x) (seen new x)
+  pub counts : (x : Name) → looks old x ≤ looks new x

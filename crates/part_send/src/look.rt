@@ -17,7 +17,7 @@ pub(crate) fn is_full(tables: &Tables, word: u64, round: u32, i: usize) -> bool
 {
     let _geometry = tables.geometry();
     let need = tables.need(i);
-    round_of(word) == round && bits_of(word) & need == need
+    round_of(word) == round && need & bits_of(word) == need
 }
 
 /// The word of piece `i` with the bit of a send partition that the piece touches.

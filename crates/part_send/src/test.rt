@@ -47,6 +47,7 @@ fn look_at_pieces<C: Content>(seat: &mut SendSeat<C>, pair: &Pair<C>) -> Option<
     ensures answer { MatchOption result (AreFull seat.new.view (pieces seat.old.view.geometry))
         (Stops seat.old.view seat.new.view) }
 {
+    let _geometry = pair.geometry();
     let tables = pair.tables();
     let round = seat.round();
     let place = tables.place(round) as u32;

@@ -1,0 +1,5 @@
+pub mod Ranges
+pub mod Views
+pub mod Starting
+pub mod Masks
+pub mod Tested
