@@ -3,3 +3,4 @@ pub mod Views
 pub mod Starting
 pub mod Masks
 pub mod Tested
+pub mod Winning

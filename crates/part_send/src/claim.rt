@@ -46,7 +46,7 @@ pub(crate) fn claim<C: Content, L: Ledger>(
     let _geometry = pair.geometry();
     let mut shown = pair.load_claim(seat, partition / 32);
     steps.tick();
-    for _ in 0..32 {
+    for _ in 0..32u32 {
         refuse_word(shown, round, partition)?;
         let found = pair.try_claim(seat, shown, partition, bytes);
         steps.tick();
