@@ -1,40 +1,12 @@
 -- The padded grid after a number of steps.
-use Rattle.std.proofs.Common.{◌≡◌, ◌∙◌, refl, sym, ap, subst, ℕ, zero, suc, ◌+◌, ◌*◌, ◌<◌, ℤ, List, length, Result, Ok, Err, IfOk, arith}
-use Rattle.std.proofs.lemmas.List.FromFn.{length-map-range_with_len}
+use Rattle.std.proofs.Common.{◌≡◌, ◌∙◌, sym, ap, subst, ℕ, ◌+◌, ◌*◌, ◌<◌, ℤ, List, Result, Ok, Err, IfOk, arith}
 use Rattle.stencil_def.specs.declared.rule.Rule.{Rule}
-use Rattle.stencil_def.specs.Plane.{Plane, IsPlane, cell}
+use Rattle.stencil_def.specs.Plane.{Plane, cell}
 use Rattle.stencil_def.specs.Step.{new_cell, next_plane, fold_plane}
-use Rattle.stencil_def.proofs.StepFacts.{next-cells, fold-none, fold-more, new_at}
+use Rattle.stencil_def.proofs.FoldFacts.{fold-rows, fold-cols}
+use Rattle.stencil_def.proofs.StepFacts.{next-cells, fold-none, fold-more}
 use Rattle.cell_lanes.specs.Padding.{with_ends, end_or, IsPadded}
 use Rattle.cell_lanes.proofs.RowFacts.{end-same}
-
-next-rows : (g : Plane) (rule : Rule) → (next_plane g rule).rows ≡ g.rows
-unfolding next_plane
-next-rows g rule = refl
-
-next-cols : (g : Plane) (rule : Rule) → (next_plane g rule).cols ≡ g.cols
-unfolding next_plane
-next-cols g rule = refl
-
-next-length : (g : Plane) (rule : Rule) → length (next_plane g rule).values ≡ g.rows * g.cols
-unfolding next_plane
-next-length g rule = length-map-range_with_len (new_at g rule) 0 (g.rows * g.cols)
-
-pub fold-rows : (g : Plane) (rule : Rule) (n : ℕ) → (fold_plane g rule n).rows ≡ g.rows
-unfolding fold_plane
-fold-rows g rule zero = refl
-fold-rows g rule (suc n) = next-rows (fold_plane g rule n) rule ∙ fold-rows g rule n
-
-pub fold-cols : (g : Plane) (rule : Rule) (n : ℕ) → (fold_plane g rule n).cols ≡ g.cols
-unfolding fold_plane
-fold-cols g rule zero = refl
-fold-cols g rule (suc n) = next-cols (fold_plane g rule n) rule ∙ fold-cols g rule n
-
-pub fold-length : (g : Plane) (rule : Rule) (n : ℕ) → IsPlane g → length (fold_plane g rule n).values ≡ g.rows * g.cols
-unfolding fold_plane
-fold-length g rule zero p = p.length
-fold-length g rule (suc n) p =
-    next-length (fold_plane g rule n) rule ∙ (ap (λ k. k * (fold_plane g rule n).cols) (fold-rows g rule n) ∙ ap (λ k. g.rows * k) (fold-cols g rule n))
 
 -- padded by the new cells is padded by the cells of the next grid
 pub padded-next : (g : Plane) (rule : Rule) (rows cols : ℕ) (values : List ℤ) → g.rows ≡ rows → g.cols ≡ cols → 0 < rows → 0 < cols

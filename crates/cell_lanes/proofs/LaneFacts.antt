@@ -4,7 +4,7 @@ use Rattle.std.specs.Simd.Lanes.{zip2, Each1, Each2}
 use Rattle.std.proofs.lemmas.Int.{ints, to_z-of_z, fits_signed_from_abs, unsigned_abs-mul}
 use Rattle.std.proofs.lemmas.Nat.{mul-le}
 use Rattle.stencil_def.specs.Limits.{IsWeight, IsValue}
-use Rattle.cell_lanes.specs.Sizes.{IsPart}
+use Rattle.cell_lanes.specs.Parts.{IsPart}
 
 -- what the sum of two lanes gives, as bits
 abbrev pub bits_sum : ℕ → ℕ → ℕ

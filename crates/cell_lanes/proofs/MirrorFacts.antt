@@ -8,7 +8,8 @@ use Rattle.stencil_def.specs.Square.{Square, side, weight}
 use Rattle.stencil_def.specs.Step.{sum_below}
 use Rattle.stencil_def.proofs.SumFacts.{sum-small}
 use Rattle.cell_lanes.specs.Mirror.{both, HasLimits, IsMirrored, row_alike, alike, alike_row_sum}
-use Rattle.cell_lanes.specs.Sizes.{IsAlike, IsSum}
+use Rattle.cell_lanes.specs.Parts.{IsAlike}
+use Rattle.cell_lanes.specs.Sizes.{IsSum}
 use Rattle.cell_lanes.specs.Window.{met, row_sum_at, sum_at}
 use Rattle.cell_lanes.proofs.LaneFacts.{product-size}
 use Rattle.cell_lanes.proofs.ProductFacts.{spread}

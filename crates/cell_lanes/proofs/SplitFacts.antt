@@ -8,7 +8,7 @@ use Rattle.std.proofs.Math.Nat.{div-eq_of_lt-le}
 use Rattle.cell_lanes.proofs.ProductFacts.{spread, associate}
 use Rattle.std.specs.Simd.Lanes.{zip2, Each1, Each2}
 use Rattle.stencil_def.specs.Limits.{IsWeight}
-use Rattle.cell_lanes.specs.Sizes.{IsAlike}
+use Rattle.cell_lanes.specs.Parts.{IsAlike}
 use Rattle.cell_lanes.proofs.LaneFacts.{back}
 
 -- a number that is a multiple of m and a rest below m, shifted to the right

@@ -13,7 +13,8 @@ use Rattle.stencil_def.specs.Step.{sum_below, clamped}
 use Rattle.stencil_def.proofs.SumFacts.{sum-more, sum-small}
 use Rattle.cell_lanes.specs.Window.{met, row_sum_at, sum_at}
 use Rattle.cell_lanes.specs.Lanes.{two}
-use Rattle.cell_lanes.specs.Sizes.{IsSum, IsRowSum}
+use Rattle.cell_lanes.specs.Parts.{IsRowSum}
+use Rattle.cell_lanes.specs.Sizes.{IsSum}
 use Rattle.cell_lanes.proofs.LaneFacts.{back, product-size}
 use Rattle.cell_lanes.proofs.TwoFacts.{two-at, two-same, chunk-two, added}
 

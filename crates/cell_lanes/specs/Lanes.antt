@@ -1,4 +1,4 @@
--- The lanes of a vector of two cells.
+-- The lanes of a vector of two cells, for private functions.
 use Rattle.std.specs.Prelude.{ℕ, ℤ, List, [], ◌∷◌}
 
 -- f 0 and f 1

@@ -1,5 +1,6 @@
--- Weights that are the same on both sides of the middle row and of the middle column.
-use Rattle.std.specs.Prelude.{◌≡◌, ℕ, ◌+◌, ◌*◌, ◌-◌, ◌<◌, ◌≤◌, nat_lt, if◌then◌else◌, ℤ, pos, ◌+ℤ◌, ◌*ℤ◌, Bool, true, List, length, slice_index_or}
+-- Weights that are the same on both sides of the middle row and of the middle column: for private functions.
+use Rattle.std.specs.Prelude.{◌≡◌, ℕ, ◌+◌, ◌*◌, ◌-◌, ◌<◌, ◌≤◌, nat_lt, if◌then◌else◌, ℤ, pos, ◌+ℤ◌, ◌*ℤ◌, Bool, true}
+use Rattle.std.specs.Prelude.{List, length, slice_index_or}
 use Rattle.std.specs.List.{All}
 use Rattle.stencil_def.specs.Limits.{IsWeight}
 use Rattle.stencil_def.specs.Square.{Square, side, weight}
@@ -38,5 +39,6 @@ pub record AreReady (w : Square) (lanes : List ℤ) (is_mirrored : Bool) : Type 
   pub near : w.reach ≤ 2
   pub lanes_length : length lanes ≡ 50
   pub limits : All IsWeight lanes
-  pub both_lanes : (k i : ℕ) → k < side w * side w → i < 2 → slice_index_or lanes (2 * k + i) (pos 0) ≡ slice_index_or w.values k (pos 0)
+  pub both_lanes : (k i : ℕ) → k < side w * side w → i < 2 →
+      slice_index_or lanes (2 * k + i) (pos 0) ≡ slice_index_or w.values k (pos 0)
   pub mirrored : is_mirrored ≡ true → IsMirrored w

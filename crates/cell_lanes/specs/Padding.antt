@@ -1,4 +1,4 @@
--- A grid with more rows and columns on each side, as many as the weights reach.
+-- A grid with more rows and columns on each side, as many as the weights reach: for private functions.
 use Rattle.std.specs.Prelude.{◌≡◌, ℕ, ◌+◌, ◌*◌, ◌<◌, ℤ, pos, ◌-ℤ◌, int_div, List, slice_index_or, Option, Some, None}
 use Rattle.stencil_def.specs.declared.rule.Rule.{Rule}
 use Rattle.stencil_def.specs.Step.{place, clamped}
@@ -33,4 +33,5 @@ RowsAre own rule cols values n = (row x : ℕ) → row < n → x < with_ends rul
 -- all rows stand there: the own rows with their ends, and the rows before and behind them
 abbrev pub IsPadded : (ℕ → ℕ → ℤ) → Rule → ℕ → ℕ → List ℤ → Type 0
 IsPadded own rule rows cols values = (y x : ℕ) → y < with_ends rule rows → x < with_ends rule cols →
-    slice_index_or values (y * with_ends rule cols + x) (pos 0) ≡ end_or rule rows (λ row. end_or rule cols (own row) x) y
+    slice_index_or values (y * with_ends rule cols + x) (pos 0) ≡
+    end_or rule rows (λ row. end_or rule cols (own row) x) y

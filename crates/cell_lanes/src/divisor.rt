@@ -7,7 +7,7 @@ ghost use Rattle.stencil_def.specs.Step.{clamped};
 ghost use Rattle.cell_lanes.specs.Sizes.{IsSum};
 
 use std::marker::Model;
-use stencil_def::MAX_VALUE;
+use stencil_def::{MAX_DIV, MAX_VALUE};
 
 /// A divisor from 1 to 1,000,000, with its reciprocal, so that no sum needs a division instruction. Contracts see a
 /// number.
@@ -42,7 +42,7 @@ fn signed(size: u64, sum: i64) -> i64
 /// A sum over a window, divided by this power of two with truncation toward zero, and clamped.
 #[inline(always)]
 fn shifted(sum: i64, shift: u32) -> i64
-    requires shift { 2 ^ shift ≤ 1000000 }
+    requires shift { 2 ^ shift ≤ MAX_DIV }
     ensures value { result ≡ clamped (int_div sum (pos (2 ^ shift))) }
     ensures limits { IsValue result }
 {

@@ -5,7 +5,7 @@ ghost use Rattle.std.specs.List.{All};
 ghost use Rattle.std.specs.Simd.Lanes.{zip2, Each1};
 ghost use Rattle.stencil_def.specs.Limits.{IsWeight, IsValue};
 ghost use Rattle.cell_lanes.specs.Lanes.{two};
-ghost use Rattle.cell_lanes.specs.Sizes.{IsPart, IsAlike};
+ghost use Rattle.cell_lanes.specs.Parts.{IsPart, IsAlike};
 ghost use Rattle.cell_lanes.specs.Window.{met};
 
 use std::simd::prelude::*;

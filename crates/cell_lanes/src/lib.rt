@@ -8,8 +8,6 @@ mod padded;
 mod row;
 mod run;
 mod sums;
-#[cfg(test)]
-mod tests;
 mod weights;
 
 pub use divisor::Divisor;

@@ -6,7 +6,8 @@ ghost use Rattle.std.specs.List.{All};
 ghost use Rattle.stencil_def.specs.Limits.{IsWithin, IsValue};
 ghost use Rattle.cell_lanes.specs.Lanes.{two};
 ghost use Rattle.cell_lanes.specs.Mirror.{HasLimits, IsMirrored, row_alike, alike, alike_row_sum};
-ghost use Rattle.cell_lanes.specs.Sizes.{IsSum, IsAlikeSum};
+ghost use Rattle.cell_lanes.specs.Parts.{IsAlikeSum};
+ghost use Rattle.cell_lanes.specs.Sizes.{IsSum};
 ghost use Rattle.cell_lanes.specs.Window.{sum_at};
 
 use crate::LaneWeights;

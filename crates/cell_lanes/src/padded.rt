@@ -2,15 +2,15 @@
 
 ghost use Rattle.std.specs.Prelude.{◌≡◌, ℕ, ℤ, ◌+◌, ◌*◌, ◌<◌, ◌≤◌, pos, length, slice_index_or, IfOk};
 ghost use Rattle.std.specs.List.{All};
-ghost use Rattle.stencil_def.specs.Limits.{IsWithin, IsValue};
+ghost use Rattle.stencil_def.specs.Limits.{IsSide, IsValue};
 ghost use Rattle.stencil_def.specs.Plane.{Plane, IsPlane, cell};
 ghost use Rattle.stencil_def.specs.Step.{new_cell};
-ghost use Rattle.cell_lanes.specs.Padding.{with_ends, or_edge, end_or, row_value, IsPadded, RowsAre};
+ghost use Rattle.cell_lanes.specs.Padding.{with_ends, end_or, row_value, IsPadded, RowsAre};
 
-use crate::row::{copied_row, next_row, place_at};
+use crate::row::{copied_row, end_value, next_row};
 use crate::{Divisor, LaneWeights};
 use std::alloc::{AllocError, Global};
-use stencil_def::{Grid, Rule};
+use stencil_def::{Grid, MAX_CELLS, Rule};
 
 /// Where row `y` starts, with this many places in each row.
 fn start_of(y: u32, width: u32) -> usize
@@ -21,59 +21,51 @@ fn start_of(y: u32, width: u32) -> usize
     (y * width) as usize
 }
 
-/// What stands in row `y` and column `x`, where the grid's own rows are there with their ends.
-fn end_value(rule: &Rule, rows: u32, cols: u32, y: u32, x: u32, values: &[i64]) -> i64
-    requires rows { IsWithin 1 4096 rows }
-    requires cols { IsWithin 1 4096 cols }
-    requires length { length values.now ≡ with_ends rule.now rows * with_ends rule.now cols }
-    requires values { All IsValue values.now }
-    requires x { x < with_ends rule.now cols }
-    ensures value { result ≡ end_or rule.now rows (λ row. row_value rule.now cols values.now row x) y }
-    ensures limits { IsValue result }
-{
-    let reach = rule.weights.reach();
-    let width = cols + 2 * reach;
-    match place_at(rule.around, rows, y, reach) {
-        Some(row) => values[start_of(reach + row, width) + x as usize],
-        None => rule.edge,
-    }
-}
-
 /// Gives row `y`, which is none of the grid's own, what lies there.
 fn set_end_row(rule: &Rule, rows: u32, cols: u32, y: u32, values: &mut [i64])
-    requires rows { IsWithin 1 4096 rows }
-    requires cols { IsWithin 1 4096 cols }
+    requires rows { IsSide rows }
+    requires cols { IsSide cols }
     requires length { length values.old ≡ with_ends rule.now rows * with_ends rule.now cols }
     requires values { All IsValue values.old }
     requires row { y < with_ends rule.now rows }
     requires outside { (row : ℕ) → row < rows → rule.now.weights.reach + row ≡ y → ⊥ }
-    ensures row { (x : ℕ) → x < with_ends rule.now cols → slice_index_or values.new (y * with_ends rule.now cols + x) (pos 0) ≡
+    ensures row { (x : ℕ) → x < with_ends rule.now cols →
+        slice_index_or values.new (y * with_ends rule.now cols + x) (pos 0) ≡
         end_or rule.now rows (λ row. row_value rule.now cols values.old row x) y }
-    ensures below { (k : ℕ) → k < y * with_ends rule.now cols → slice_index_or values.new k (pos 0) ≡ slice_index_or values.old k (pos 0) }
-    ensures above { (k : ℕ) → (y + 1) * with_ends rule.now cols ≤ k → slice_index_or values.new k (pos 0) ≡ slice_index_or values.old k (pos 0) }
+    ensures below { (k : ℕ) → k < y * with_ends rule.now cols →
+        slice_index_or values.new k (pos 0) ≡ slice_index_or values.old k (pos 0) }
+    ensures above { (k : ℕ) → (y + 1) * with_ends rule.now cols ≤ k →
+        slice_index_or values.new k (pos 0) ≡ slice_index_or values.old k (pos 0) }
     ensures values { All IsValue values.new }
 {
-    let width = cols + 2 * rule.weights.reach();
+    let reach = rule.weights.reach();
+    let width = cols + 2 * reach;
     let start = start_of(y, width);
+    let own = start_of(reach, width);
     for x in 0..width {
-        values[start + x as usize] = end_value(rule, rows, cols, y, x, values);
+        let first = own + x as usize;
+        values[start + x as usize] = end_value(rule, rows, y, values, first, width as usize);
     }
 }
 
-/// Gives the rows from `from` up to and without `to`, which are all before or all behind the grid's own, what lies there.
+/// Gives the rows from `from` up to and without `to`, which are all before or all behind the grid's own, what lies
+/// there.
 fn set_end_rows(rule: &Rule, rows: u32, cols: u32, from: u32, to: u32, values: &mut [i64])
-    requires rows { IsWithin 1 4096 rows }
-    requires cols { IsWithin 1 4096 cols }
+    requires rows { IsSide rows }
+    requires cols { IsSide cols }
     requires length { length values.old ≡ with_ends rule.now rows * with_ends rule.now cols }
     requires values { All IsValue values.old }
     requires order { from ≤ to }
     requires end { to ≤ with_ends rule.now rows }
-    requires outside { (row : ℕ) → row < rows → from ≤ rule.now.weights.reach + row → rule.now.weights.reach + row < to → ⊥ }
+    requires outside { (row : ℕ) → row < rows → from ≤ rule.now.weights.reach + row →
+        rule.now.weights.reach + row < to → ⊥ }
     ensures ends { (y x : ℕ) → from ≤ y → y < to → x < with_ends rule.now cols →
         slice_index_or values.new (y * with_ends rule.now cols + x) (pos 0) ≡
         end_or rule.now rows (λ row. row_value rule.now cols values.old row x) y }
-    ensures below { (k : ℕ) → k < from * with_ends rule.now cols → slice_index_or values.new k (pos 0) ≡ slice_index_or values.old k (pos 0) }
-    ensures above { (k : ℕ) → to * with_ends rule.now cols ≤ k → slice_index_or values.new k (pos 0) ≡ slice_index_or values.old k (pos 0) }
+    ensures below { (k : ℕ) → k < from * with_ends rule.now cols →
+        slice_index_or values.new k (pos 0) ≡ slice_index_or values.old k (pos 0) }
+    ensures above { (k : ℕ) → to * with_ends rule.now cols ≤ k →
+        slice_index_or values.new k (pos 0) ≡ slice_index_or values.old k (pos 0) }
     ensures values { All IsValue values.new }
 {
     for y in from..to {
@@ -83,11 +75,12 @@ fn set_end_rows(rule: &Rule, rows: u32, cols: u32, from: u32, to: u32, values: &
 
 /// Gives all rows before and behind the grid's own what lies there.
 fn set_all_end_rows(rule: &Rule, rows: u32, cols: u32, values: &mut [i64])
-    requires rows { IsWithin 1 4096 rows }
-    requires cols { IsWithin 1 4096 cols }
+    requires rows { IsSide rows }
+    requires cols { IsSide cols }
     requires length { length values.old ≡ with_ends rule.now rows * with_ends rule.now cols }
     requires values { All IsValue values.old }
-    ensures padded { (own : ℕ → ℕ → ℤ) → RowsAre own rule.now cols values.old rows → IsPadded own rule.now rows cols values.new }
+    ensures padded { (own : ℕ → ℕ → ℤ) → RowsAre own rule.now cols values.old rows →
+        IsPadded own rule.now rows cols values.new }
     ensures values { All IsValue values.new }
 {
     let reach = rule.weights.reach();
@@ -122,8 +115,8 @@ fn next_rows(
     cols: u32,
     next: &mut [i64],
 )
-    requires rows { IsWithin 1 4096 rows }
-    requires cols { IsWithin 1 4096 cols }
+    requires rows { IsSide rows }
+    requires cols { IsSide cols }
     requires length { length values.now ≡ with_ends rule.now rows * with_ends rule.now cols }
     requires same_length { length next.old ≡ length values.now }
     requires values { All IsValue values.now }
@@ -162,8 +155,10 @@ pub(crate) fn zeros(alloc: Global, len: usize) -> Result<Vec<i64>, AllocError>
 
 /// The grid with more rows and columns on each side.
 pub(crate) fn padded(alloc: Global, grid: &Grid, rule: &Rule) -> Result<Vec<i64>, AllocError>
-    ensures length { IfOk result (λ values. length values.items ≡ with_ends rule.now grid.now.rows * with_ends rule.now grid.now.cols) }
-    ensures padded { IfOk result (λ values. IsPadded (cell grid.now) rule.now grid.now.rows grid.now.cols values.items) }
+    ensures length { IfOk result (λ values. length values.items ≡
+        with_ends rule.now grid.now.rows * with_ends rule.now grid.now.cols) }
+    ensures padded { IfOk result (λ values.
+        IsPadded (cell grid.now) rule.now grid.now.rows grid.now.cols values.items) }
     ensures values { IfOk result (λ values. All IsValue values.items) }
 {
     let reach = rule.weights.reach();
@@ -184,8 +179,8 @@ pub(crate) fn next_padded(
     cols: u32,
     next: &mut [i64],
 )
-    requires rows { IsWithin 1 4096 rows }
-    requires cols { IsWithin 1 4096 cols }
+    requires rows { IsSide rows }
+    requires cols { IsSide cols }
     requires length { length values.now ≡ with_ends rule.now rows * with_ends rule.now cols }
     requires same_length { length next.old ≡ length values.now }
     requires values { All IsValue values.now }
@@ -207,8 +202,10 @@ fn set_row(grid: &mut Grid, row: u32, cells: &[i64])
     requires values { All IsValue cells.now }
     ensures rows { grid.new.rows ≡ grid.old.rows }
     ensures cols { grid.new.cols ≡ grid.old.cols }
-    ensures row { (col : ℕ) → col < grid.old.cols → slice_index_or grid.new.values (row * grid.old.cols + col) (pos 0) ≡ slice_index_or cells.now col (pos 0) }
-    ensures below { (k : ℕ) → k < row * grid.old.cols → slice_index_or grid.new.values k (pos 0) ≡ slice_index_or grid.old.values k (pos 0) }
+    ensures row { (col : ℕ) → col < grid.old.cols →
+        slice_index_or grid.new.values (row * grid.old.cols + col) (pos 0) ≡ slice_index_or cells.now col (pos 0) }
+    ensures below { (k : ℕ) → k < row * grid.old.cols →
+        slice_index_or grid.new.values k (pos 0) ≡ slice_index_or grid.old.values k (pos 0) }
     ensures limits { IsPlane grid.new }
 {
     for col in 0..grid.cols() {
@@ -224,9 +221,9 @@ pub(crate) fn middle(
     rows: u32,
     cols: u32,
 ) -> Result<Grid, AllocError>
-    requires rows { IsWithin 1 4096 rows }
-    requires cols { IsWithin 1 4096 cols }
-    requires cells { rows * cols ≤ 1000000 }
+    requires rows { IsSide rows }
+    requires cols { IsSide cols }
+    requires cells { rows * cols ≤ MAX_CELLS }
     requires length { length values.now ≡ with_ends rule.now rows * with_ends rule.now cols }
     requires values { All IsValue values.now }
     ensures cells { IfOk result (λ grid. (g : Plane) → g.rows ≡ rows → g.cols ≡ cols → length g.values ≡ rows * cols →

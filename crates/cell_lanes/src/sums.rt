@@ -1,13 +1,15 @@
 //! The weighted sums of a row.
 
-ghost use Rattle.std.specs.Prelude.{◌≡◌, ℕ, ◌+◌, ◌*◌, ◌<◌, ◌≤◌, ◌*ℤ◌, true, pos, int_div, length, slice_index_or, unsigned_abs};
+ghost use Rattle.std.specs.Prelude.{◌≡◌, ℕ, ◌+◌, ◌*◌, ◌<◌, ◌≤◌, ◌*ℤ◌, true, pos, int_div, length, slice_index_or};
+ghost use Rattle.std.specs.Prelude.{unsigned_abs};
 ghost use Rattle.std.specs.List.{All};
 ghost use Rattle.stencil_def.specs.Limits.{IsWithin, IsWeight, IsValue};
 ghost use Rattle.stencil_def.specs.Square.{side};
 ghost use Rattle.stencil_def.specs.Step.{clamped};
 ghost use Rattle.cell_lanes.specs.Lanes.{two};
 ghost use Rattle.cell_lanes.specs.Mirror.{HasLimits, IsMirrored};
-ghost use Rattle.cell_lanes.specs.Sizes.{IsSum, IsRowSum};
+ghost use Rattle.cell_lanes.specs.Parts.{IsRowSum};
+ghost use Rattle.cell_lanes.specs.Sizes.{IsSum};
 ghost use Rattle.cell_lanes.specs.Window.{row_sum_at, sum_at};
 
 use crate::lanes::{LANES, plus, times, values_met};
@@ -127,7 +129,8 @@ fn sums_at_reach(
     requires weights { HasLimits weights.now }
     requires mirrored { is_mirrored ≡ true → IsMirrored weights.now }
     requires out { length out.old + 2 * reach ≡ width }
-    ensures sums { (x : ℕ) → x < length out.old → slice_index_or out.new x (pos 0) ≡ sum_at weights.now window.now width x }
+    ensures sums { (x : ℕ) → x < length out.old →
+        slice_index_or out.new x (pos 0) ≡ sum_at weights.now window.now width x }
     ensures limits { All IsSum out.new }
 {
     let mut x = 0;
@@ -145,7 +148,7 @@ fn sums_at_reach(
     }
 }
 
-/// The sums of all cells of the row, with a loop of its own for each reach and for mirrored weights.
+/// The sums of all cells of the row, with a loop of its own for each reach.
 ///
 /// The weights come from memory that this function doesn't make, so that a compiler keeps them as vectors.
 #[inline(never)]
@@ -153,20 +156,14 @@ fn row_sums(window: &[i64], width: u32, weights: &LaneWeights, out: &mut [i64])
     requires window { length window.now ≡ side weights.now * width }
     requires values { All IsValue window.now }
     requires out { length out.old + 2 * weights.now.reach ≡ width }
-    ensures sums { (x : ℕ) → x < length out.old → slice_index_or out.new x (pos 0) ≡ sum_at weights.now window.now width x }
+    ensures sums { (x : ℕ) → x < length out.old →
+        slice_index_or out.new x (pos 0) ≡ sum_at weights.now window.now width x }
     ensures limits { All IsSum out.new }
 {
     let is_mirrored = weights.is_mirrored();
-    if weights.weights().reach() == 1 {
-        if is_mirrored {
-            sums_at_reach(window, width as usize, weights, 1, true, out);
-        } else {
-            sums_at_reach(window, width as usize, weights, 1, false, out);
-        }
-    } else if is_mirrored {
-        sums_at_reach(window, width as usize, weights, 2, true, out);
-    } else {
-        sums_at_reach(window, width as usize, weights, 2, false, out);
+    match weights.weights().reach() {
+        1 => sums_at_reach(window, width as usize, weights, 1, is_mirrored, out),
+        _ => sums_at_reach(window, width as usize, weights, 2, is_mirrored, out),
     }
 }
 
@@ -179,7 +176,8 @@ pub fn window_sums(window: &[i64], width: u32, weights: &Weights, out: &mut [i64
     requires window { length window.now ≡ side weights.now * width }
     requires values { All IsValue window.now }
     requires out { length out.old + 2 * weights.now.reach ≡ width }
-    ensures sums { (x : ℕ) → x < length out.old → slice_index_or out.new x (pos 0) ≡ sum_at weights.now window.now width x }
+    ensures sums { (x : ℕ) → x < length out.old →
+        slice_index_or out.new x (pos 0) ≡ sum_at weights.now window.now width x }
     ensures limits { All IsSum out.new }
 {
     row_sums(window, width, &LaneWeights::new(*weights), out);

@@ -14,7 +14,8 @@ use Rattle.csv.specs.declared.parser.State.TheVariants as st
 use Rattle.csv.proofs.RoundTrip.{read-write}
 use Rattle.stencil_def.specs.Limits.{IsValue}
 use Rattle.grid_text.specs.Printing.{row_text}
-use Rattle.grid_text.specs.Records.{records_left, records_of}
+use Rattle.grid_text.specs.Reader.{records_left}
+use Rattle.grid_text.specs.Records.{records_of}
 use Rattle.grid_text.proofs.PrintedNumbers.{signed-plain}
 use Rattle.grid_text.proofs.RecordsLeft.{left-all, left-none, left-some}
 

@@ -12,7 +12,8 @@ use Rattle.grid_text.specs.declared.rows.Rows.{Rows}
 use Rattle.grid_text.specs.declared.rows.TextKind.{TextKind}
 use Rattle.grid_text.specs.declared.rows.TextKind.TheVariants.{Grid, Weights}
 use Rattle.grid_text.specs.Faults.{answer, width}
-use Rattle.grid_text.specs.Reading.{AreKept, grid_of, text_faults, weights_of}
+use Rattle.grid_text.specs.Kept.{AreKept}
+use Rattle.grid_text.specs.Reading.{grid_of, text_faults, weights_of}
 use Rattle.grid_text.specs.Records.{records_of}
 use Rattle.grid_text.proofs.ListFacts.{first-append}
 use Rattle.grid_text.proofs.FaultFacts.{grid-small, values-length, values-limit, weights-small}

@@ -11,7 +11,8 @@ use Rattle.csv.specs.declared.parser.State.{State}
 use Rattle.csv.specs.declared.parser.State.TheVariants as st
 use Rattle.csv.proofs.ReadFacts.{rows-end, rows-more}
 use Rattle.grid_text.specs.Faults.{width}
-use Rattle.grid_text.specs.Records.{IsReading, TextReader, left_of, records_left, records_of, rest_of}
+use Rattle.grid_text.specs.Reader.{IsReading, TextReader, left_of, records_left, rest_of}
+use Rattle.grid_text.specs.Records.{records_of}
 
 -- a byte that ends a record leaves a state in which the end of the text ends none
 abbrev EndsWell : State × Action → Type 0
@@ -150,7 +151,7 @@ read-some a b fields h r on =
     let y = some-of (rest_of a) h.known in
     let m = rows-more (λ (text : Bor (List ℕ)). Some text.now) a b fields default_config a.state y.0 y.0 [] h.config y.1 (refl, refl) r in
     let e = some-next a.state b.state y.0 m.0 m.2.0 fields m.2.1 m.2.2 m.2.3.0 m.2.3.1 in (
-      record { config = on.0 ∙ h.config; trim = on.1 ∙ h.trim; ready = (on.4 h.ready).0; known = ap (λ (o : Option (List ℕ)). is_some o) m.1 },
+      record { config = on.0 ∙ h.config; trim = on.1 ∙ h.trim; flexible = on.2 ∙ h.flexible; ready = (on.4 h.ready).0; known = ap (λ (o : Option (List ℕ)). is_some o) m.1 },
       ap (λ (o : Option (List ℕ)). records_left a.state (unwrap_or o [])) y.1
           ∙ (e ∙ ap (λ (o : Option (List ℕ)). fields ∷ records_left b.state (unwrap_or o [])) (sym m.1)),
     )

@@ -10,7 +10,8 @@ use Rattle.grid_text.specs.declared.fault.TextFault.TheVariants as fault
 use Rattle.grid_text.specs.declared.rows.Rows.{Rows}
 use Rattle.grid_text.specs.declared.rows.TextKind.{TextKind}
 use Rattle.grid_text.specs.Faults.{field_faults, limit_of, numbered, row_faults, rows_faults, shape_faults, value_of, values_of, width}
-use Rattle.grid_text.specs.Reading.{AreKept, text_faults}
+use Rattle.grid_text.specs.Kept.{AreKept}
+use Rattle.grid_text.specs.Reading.{text_faults}
 use Rattle.grid_text.proofs.ListFacts.{first-append, numbered-front, numbered-push}
 use Rattle.grid_text.proofs.FaultFacts.{shape-same}
 

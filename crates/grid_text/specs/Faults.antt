@@ -1,6 +1,8 @@
 -- What is wrong with a text: its faults in the order in which they are tried. The first is the answer.
-use Rattle.std.specs.Prelude.{ℕ, ◌*◌, ◌==◌, Bool, ◌||◌, not, nat_lt, if◌then◌else◌, ℤ, pos, List, [], ◌∷◌, ◌++◌, length, map, unwrap_or, Result, Ok, Err}
+use Rattle.std.specs.Prelude.{ℕ, ◌*◌, ◌==◌, Bool, ◌||◌, not, nat_lt, if◌then◌else◌, ℤ, pos, unsigned_abs, List, [], ◌∷◌}
+use Rattle.std.specs.Prelude.{◌++◌, length, map, unwrap_or, Result, Ok, Err}
 use Rattle.std.specs.List.{enumerate_from, flat_map}
+use Rattle.stencil_def.specs.declared.limits.TheConstants.{MAX_CELLS, MAX_SIDE, MAX_VALUE, MAX_WEIGHT}
 use Rattle.grid_text.specs.declared.fault.TextFault.{TextFault}
 use Rattle.grid_text.specs.declared.fault.TextFault.TheVariants as fault
 use Rattle.grid_text.specs.declared.number.NumberFault.{NumberFault}
@@ -24,8 +26,8 @@ answer (first ∷ rest) value = Err first
 
 -- how great the numbers may be
 abbrev pub limit_of : TextKind → ℕ
-limit_of Grid = 1000000000000
-limit_of Weights = 1000
+limit_of Grid = unsigned_abs MAX_VALUE
+limit_of Weights = unsigned_abs MAX_WEIGHT
 
 -- of a number, where it stands in a row and a column
 abbrev pub number_faults : ℕ → ℕ → Result ℤ NumberFault → List TextFault
@@ -39,7 +41,7 @@ field_faults limit row col field = number_faults row col (within limit (signed_o
 
 -- a grid of c columns has too many columns, rows or cells with this row
 abbrev pub is_too_large : ℕ → ℕ → Bool
-is_too_large c row = nat_lt 4096 c || nat_lt 4096 row || nat_lt 1000000 (row * c)
+is_too_large c row = nat_lt MAX_SIDE c || nat_lt MAX_SIDE row || nat_lt MAX_CELLS (row * c)
 
 -- weights have 3 or 5 rows, with as many fields in each
 abbrev pub is_bad_weights : ℕ → ℕ → ℕ → Bool

@@ -1,5 +1,6 @@
 -- Number texts.
-use Rattle.std.specs.Prelude.{ℕ, ◌==◌, Bool, true, false, ◌&&◌, nat_le, if◌then◌else◌, ℤ, pos, neg_ℤ, unsigned_abs, List, [], ◌∷◌, length, reverse, Option, Some, None, option_map, Result, Ok, Err}
+use Rattle.std.specs.Prelude.{ℕ, ◌==◌, Bool, true, false, ◌&&◌, nat_le, if◌then◌else◌, ℤ, pos, neg_ℤ, unsigned_abs}
+use Rattle.std.specs.Prelude.{List, [], ◌∷◌, length, reverse, Option, Some, None, option_map, Result, Ok, Err}
 use Rattle.std.specs.Char.{is_ascii_digit}
 use Rattle.std.specs.List.{list_all}
 use Rattle.std.specs.Str.Parse.{digits_value}

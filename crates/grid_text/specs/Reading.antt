@@ -1,13 +1,12 @@
 -- What a text reads as: a grid or weights, or the first fault.
-use Rattle.std.specs.Prelude.{◌≡◌, ℕ, ◌+◌, ◌<◌, ◌==◌, nat_lt, List, [], ◌++◌, length, Result}
+use Rattle.std.specs.Prelude.{ℕ, ◌+◌, ◌==◌, nat_lt, List, ◌++◌, length, Result}
 use Rattle.stencil_def.specs.Plane.{Plane, plane_of}
 use Rattle.stencil_def.specs.Square.{Square, square_of}
 use Rattle.grid_text.specs.declared.fault.TextFault.{TextFault}
 use Rattle.grid_text.specs.declared.fault.TextFault.TheVariants as fault
-use Rattle.grid_text.specs.declared.rows.Rows.{Rows}
 use Rattle.grid_text.specs.declared.rows.TextKind.{TextKind}
 use Rattle.grid_text.specs.declared.rows.TextKind.TheVariants.{Grid, Weights}
-use Rattle.grid_text.specs.Faults.{when, answer, rows_faults, shape_faults, values_of, width}
+use Rattle.grid_text.specs.Faults.{when, answer, rows_faults, values_of, width}
 use Rattle.grid_text.specs.Records.{records_of}
 
 -- of no row at all, and then of the rows
@@ -32,11 +31,3 @@ grid_of text = grid_of_rows (records_of text)
 
 unfoldable pub weights_of : List ℕ → Result Square TextFault
 weights_of text = weights_of_rows (records_of text)
-
--- these rows have no fault, and are kept
-pub record AreKept (kind : TextKind) (rows : List (List (List ℕ))) (kept : Rows) : Type 0 where
-  pub count : kept.rows ≡ length rows
-  pub cols : kept.cols ≡ width rows
-  pub values : kept.values.items ≡ values_of rows
-  pub faultless : rows_faults kind rows ≡ []
-  pub shape : 0 < length rows → shape_faults kind (width rows) (length rows) (width rows) ≡ []

@@ -4,34 +4,28 @@ ghost use Rattle.std.specs.Prelude.{◌≡◌};
 ghost use Rattle.grid_text.specs.declared.fault.TextFault.TheVariants.{NoMemory};
 
 use std::alloc::{AllocError, AllocFailed};
-use thiserror::Error;
 
 /// Why a text gives no grid or no weights. Rows and columns are numbered from 1.
-#[derive(Clone, Copy, Debug, PartialEq, Eq, Error)]
+#[derive(Clone, Copy)]
 pub enum TextFault {
     /// The text has no record.
-    #[error("empty")]
     Empty,
     /// With this row the grid has more than 4,096 columns, 4,096 rows or 1,000,000 cells.
-    #[error("row {row}: too large")]
     TooLarge {
         /// The row.
         row: u32,
     },
     /// This row of a grid hasn't as many fields as row 1.
-    #[error("row {row}: ragged")]
     Ragged {
         /// The row.
         row: u32,
     },
     /// This row of the weights hasn't the 3 or 5 fields that each row has, or is missing, or is one too many.
-    #[error("row {row}: bad shape")]
     BadWeights {
         /// The row.
         row: u32,
     },
     /// This field is no number.
-    #[error("row {row} column {col}: bad number")]
     BadNumber {
         /// The row.
         row: u32,
@@ -39,7 +33,6 @@ pub enum TextFault {
         col: u32,
     },
     /// This field is a number out of its range.
-    #[error("row {row} column {col}: out of range")]
     OutOfRange {
         /// The row.
         row: u32,
@@ -47,7 +40,6 @@ pub enum TextFault {
         col: u32,
     },
     /// Memory ran out.
-    #[error("out of memory")]
     NoMemory,
 }
 

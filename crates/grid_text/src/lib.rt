@@ -9,8 +9,6 @@ mod read;
 mod records;
 mod rows;
 mod summary;
-#[cfg(test)]
-mod tests;
 
 pub use fault::TextFault;
 pub use make::make_grid;

@@ -1,12 +1,12 @@
 //! The generator of grids.
 
 ghost use Rattle.std.specs.Prelude.{◌≡◌, ◌*◌, ◌<◌, ◌≤◌, ◌^◌, IfOk};
-ghost use Rattle.stencil_def.specs.Limits.{IsValue, IsWithin};
+ghost use Rattle.stencil_def.specs.Limits.{IsSide, IsValue};
 ghost use Rattle.stencil_def.specs.Plane.{IsPlane};
 ghost use Rattle.grid_text.specs.Making.{cell_of, made_grid, number_after};
 
 use std::alloc::{AllocError, Global};
-use stencil_def::Grid;
+use stencil_def::{Grid, MAX_CELLS};
 
 /// The generator's number behind `x`.
 fn number_after(x: u32) -> u32
@@ -30,9 +30,9 @@ fn cell_of(x: u32) -> i64
 /// cells, row by row, are of the numbers behind the seed: of x it is the quotient of x and 65,536, mod 19, less 9.
 pub fn make_grid(alloc: Global, seed: u32, rows: u32, cols: u32) -> Result<Grid, AllocError>
     requires seed { seed < 2 ^ 31 }
-    requires rows { IsWithin 1 4096 rows }
-    requires cols { IsWithin 1 4096 cols }
-    requires cells { rows * cols ≤ 1000000 }
+    requires rows { IsSide rows }
+    requires cols { IsSide cols }
+    requires cells { rows * cols ≤ MAX_CELLS }
     ensures made { IfOk result (λ grid. grid ≡ made_grid seed rows cols) }
     ensures limits { IfOk result IsPlane }
 {

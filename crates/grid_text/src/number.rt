@@ -4,21 +4,18 @@ ghost use Rattle.std.specs.Prelude.{◌≡◌, ◌<◌, ◌≤◌, ◌^◌, leng
 ghost use Rattle.std.specs.Char.{is_ascii_digit};
 ghost use Rattle.std.specs.List.{list_all};
 ghost use Rattle.std.specs.Str.Parse.{digits_value};
-ghost use Rattle.grid_text.specs.Numbers.{bare, from_first, is_unsigned, sign_and_digits, signed_of, unsigned_of, within};
-
-use thiserror::Error;
+ghost use Rattle.grid_text.specs.Numbers.{bare, from_first, is_unsigned, sign_and_digits, signed_of, unsigned_of};
+ghost use Rattle.grid_text.specs.Numbers.{within};
 
 /// The most digits of a number.
 const MAX_DIGITS: usize = 19;
 
 /// Why a text is no number of a range.
-#[derive(Clone, Copy, Debug, PartialEq, Eq, Error)]
+#[derive(Clone, Copy)]
 pub enum NumberFault {
     /// The text hasn't the form of a number.
-    #[error("bad number")]
     BadForm,
     /// The number is out of the range.
-    #[error("out of range")]
     OutOfRange,
 }
 

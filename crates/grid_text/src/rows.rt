@@ -1,9 +1,12 @@
 //! The rows of a text, which is of a grid or of weights, and what is wrong with them.
 
-ghost use Rattle.std.specs.Prelude.{◌≡◌, ◌≢◌, ◌∷◌, ◌++◌, ◌<◌, ◌≤◌, ◌^◌, ◌==◌, if◌then◌else◌, ℕ, List, [], length, map, OnOk, IfOk, IfErr, slice_get};
+ghost use Rattle.std.specs.Prelude.{◌≡◌, ◌≢◌, ◌∷◌, ◌++◌, ◌<◌, ◌≤◌, ◌^◌, ◌==◌, if◌then◌else◌, ℕ, List, [], length, map};
+ghost use Rattle.std.specs.Prelude.{OnOk, IfOk, IfErr, slice_get, unsigned_abs};
 ghost use Rattle.csv.specs.Records.{fields_of};
-ghost use Rattle.grid_text.specs.Faults.{field_faults, is_bad_weights, is_too_large, limit_of, numbered, rows_faults, shape_faults, value_of};
-ghost use Rattle.grid_text.specs.Reading.{AreKept, text_faults};
+ghost use Rattle.grid_text.specs.Faults.{field_faults, is_bad_weights, is_too_large, limit_of, numbered, rows_faults};
+ghost use Rattle.grid_text.specs.Faults.{shape_faults, value_of};
+ghost use Rattle.grid_text.specs.Kept.{AreKept};
+ghost use Rattle.grid_text.specs.Reading.{text_faults};
 ghost use Rattle.grid_text.specs.Records.{records_of};
 ghost use Rattle.grid_text.specs.declared.fault.TextFault.TheVariants.{NoMemory};
 
@@ -11,15 +14,10 @@ use crate::number::{signed_within, without_spaces};
 use crate::{NumberFault, TextFault, records};
 use csv::ByteRecord;
 use std::alloc::Global;
-
-/// The most rows of a grid, and the most fields of a row.
-const MAX_SIDE: usize = 4096;
-
-/// The most cells of a grid.
-const MAX_CELLS: usize = 1_000_000;
+use stencil_def::{MAX_CELLS, MAX_SIDE, MAX_VALUE, MAX_WEIGHT};
 
 /// What a text is of.
-#[derive(Clone, Copy, Debug, PartialEq, Eq)]
+#[derive(Clone, Copy)]
 pub(crate) enum TextKind {
     /// Of a grid.
     Grid,
@@ -38,11 +36,11 @@ pub(crate) struct Rows {
 /// The greatest size of a number.
 fn limit(kind: TextKind) -> u64
     ensures value { result ≡ limit_of kind }
-    ensures bound { result ≤ 1000000000000 }
+    ensures bound { result ≤ unsigned_abs MAX_VALUE }
 {
     match kind {
-        TextKind::Grid => 1_000_000_000_000,
-        TextKind::Weights => 1000,
+        TextKind::Grid => MAX_VALUE.unsigned_abs(),
+        TextKind::Weights => MAX_WEIGHT.unsigned_abs(),
     }
 }
 
@@ -50,7 +48,7 @@ fn limit(kind: TextKind) -> u64
 fn is_too_large(cols: usize, row: u32) -> bool
     ensures { result ≡ is_too_large cols row }
 {
-    cols > MAX_SIDE || row as usize > MAX_SIDE || row as usize * cols > MAX_CELLS
+    cols > MAX_SIDE as usize || row > MAX_SIDE || row as usize * cols > MAX_CELLS as usize
 }
 
 /// Whether a row of so many fields is no row of weights whose row 1 has `cols`.
@@ -96,7 +94,7 @@ fn push_numbers(
     row: u32,
 ) -> Result<(), TextFault>
     requires limit { limit < 2 ^ 63 }
-    requires few { length (fields_of fields.now) ≤ 4096 }
+    requires few { length (fields_of fields.now) ≤ MAX_SIDE }
     ensures ok { OnOk result (values.new.items ≡ values.old.items ++ map value_of (fields_of fields.now)) }
     ensures faultless { OnOk result (numbered (field_faults limit row) (fields_of fields.now) ≡ []) }
     ensures fault { IfErr result (λ fault. fault ≢ NoMemory →
@@ -119,7 +117,7 @@ fn cols_with(rows: &Rows, count: usize) -> usize
 
 /// Takes one more row, where it has no fault.
 fn push_row(rows: &mut Rows, kind: TextKind, fields: &ByteRecord) -> Result<(), TextFault>
-    requires { rows.old.rows ≤ 4096 }
+    requires { rows.old.rows ≤ MAX_SIDE }
     ensures ok { OnOk result ((before : List (List (List ℕ))) → AreKept kind before rows.old →
         AreKept kind (before ++ fields_of fields.now ∷ []) rows.new) }
     ensures fault { IfErr result (λ fault. fault ≢ NoMemory →

@@ -4,16 +4,17 @@ ghost use Rattle.std.specs.Prelude.{◌≡◌, ◌++◌, ◌<◌, ◌≤◌, IfO
 ghost use Rattle.std.specs.Fmt.{signed_decimal};
 ghost use Rattle.std.specs.List.{All};
 ghost use Rattle.stencil_def.specs.Limits.{IsValue};
-ghost use Rattle.grid_text.specs.Printing.{check_sum, greatest, head_text, least, summary_text, tail_text, total, weighted};
+ghost use Rattle.grid_text.specs.Printing.{check_sum, greatest, head_text, least, summary_text, tail_text, total};
+ghost use Rattle.grid_text.specs.Printing.{weighted};
 
 use itoa::Buffer;
 use std::alloc::{AllocError, Global};
-use stencil_def::Grid;
+use stencil_def::{Grid, MAX_CELLS};
 
 /// The sum of the values.
 fn total(values: &[i64]) -> i64
     requires values { All IsValue values.now }
-    requires few { length values.now ≤ 1000000 }
+    requires few { length values.now ≤ MAX_CELLS }
     ensures { result ≡ total values.now }
 {
     let mut sum = 0;
@@ -59,7 +60,7 @@ fn weighted(place: usize, value: i64) -> i128
 /// The sum in which the value at place n, counted from 0, counts n mod 1000 + 1 times.
 fn check_sum(values: &[i64]) -> i128
     requires values { All IsValue values.now }
-    requires few { length values.now ≤ 1000000 }
+    requires few { length values.now ≤ MAX_CELLS }
     ensures { result ≡ check_sum values.now }
 {
     let mut sum: i128 = 0;
@@ -91,7 +92,7 @@ fn push_head(text: &mut Vec<u8>, rows: u32, cols: u32, steps: u32) -> Result<(),
 fn push_tail(text: &mut Vec<u8>, values: &[i64]) -> Result<(), AllocError>
     requires values { All IsValue values.now }
     requires some { 0 < length values.now }
-    requires few { length values.now ≤ 1000000 }
+    requires few { length values.now ≤ MAX_CELLS }
     ensures { OnOk result (text.new.items ≡ text.old.items ++ tail_text values.now) }
 {
     push_number(text, "\nsum ", i128::from(total(values)))?;

@@ -8,8 +8,8 @@ use Rattle.std.specs.declared.cmp.Ordering.TheVariants.{Less, Equal, Greater}
 use Rattle.std.proofs.lemmas.Bool.{cases_Bool, eqb-true, eq-eqb, and_parts, and_from, false≢true, cond-true, cond-false}
 use Rattle.std.proofs.Math.Seq.{get_or-append_seam}
 use Rattle.std.proofs.lemmas.List.{get_or_append_left, length-set, get_or-set_same, get_or-set_other}
-use Rattle.init_match.specs.declared.keys.Side.{Side}
-use Rattle.init_match.specs.declared.keys.Side.TheVariants.{Send, Recv}
+use Rattle.part_geometry.specs.declared.answers.Side.{Side}
+use Rattle.part_geometry.specs.declared.answers.Side.TheVariants.{SendSide, RecvSide}
 use Rattle.init_match.specs.declared.keys.Key.{Key}
 use Rattle.init_match.specs.declared.keys.KeyLists.{KeyLists}
 use Rattle.init_match.specs.Calls.{same_key, same_side}
@@ -114,8 +114,8 @@ valid_placed m n key v p =
     }
 
 none_slots : (s : Side) → side_slots s no_slots ≡ []
-none_slots Send = refl
-none_slots Recv = refl
+none_slots SendSide = refl
+none_slots RecvSide = refl
 
 pub same_placed : (m n : KeyLists) (key : Key) → IsKeyLists m → IsPlaced m n key → SameLists m n
 same_placed m n key v p s q =
@@ -141,10 +141,10 @@ pub record IsPushed (m n : KeyLists) (side : Side) (key : Key) (slot i : ℕ) : 
   pub items : n.lists.items ≡ set m.lists.items i (with_slot side slot (get_or m.lists.items i no_slots))
 
 slots_more : (s side : Side) (slot : ℕ) (k : Slots) → side_slots s (with_slot side slot k) ≡ appended (same_side s side) slot (side_slots s k)
-slots_more Send Send slot k = refl
-slots_more Send Recv slot k = refl
-slots_more Recv Send slot k = refl
-slots_more Recv Recv slot k = refl
+slots_more SendSide SendSide slot k = refl
+slots_more SendSide RecvSide slot k = refl
+slots_more RecvSide SendSide slot k = refl
+slots_more RecvSide RecvSide slot k = refl
 
 pub valid_pushed : (m n : KeyLists) (side : Side) (key : Key) (slot i : ℕ) → IsKeyLists m → IsPushed m n side key slot i → IsKeyLists n
 valid_pushed m n side key slot i v p =

@@ -3,7 +3,7 @@ use Rattle.std.proofs.Common.{◌≡◌, ℕ, ◌<◌, ◌≤◌, ◌&&◌, Some
 use Rattle.std.specs.List.{slice_get}
 use Rattle.std.proofs.lemmas.List.{length-map}
 use Rattle.std.proofs.lemmas.Option.{slice_get_past, slice_get_read}
-use Rattle.init_match.specs.declared.keys.Side.{Side}
+use Rattle.part_geometry.specs.declared.answers.Side.{Side}
 use Rattle.init_match.specs.declared.keys.Key.{Key}
 use Rattle.init_match.specs.declared.keys.Call.{Call}
 use Rattle.init_match.specs.declared.keys.KeyLists.{KeyLists}

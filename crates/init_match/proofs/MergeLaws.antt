@@ -4,10 +4,11 @@ use Rattle.std.specs.List.{slice_get, sum_by}
 use Rattle.std.specs.Option.{option_map_or}
 use Rattle.std.proofs.lemmas.Bool.{cases_Bool, eqb-true, eq-eqb, le-ltb, ltb-false, false≢true}
 use Rattle.std.proofs.lemmas.List.Sums.{sum_by-cons, sum_by_push}
+use Rattle.init_match.specs.declared.TheConstants.{MAX_VOLUME}
 use Rattle.init_match.specs.declared.answers.InitFault.{InitFault}
 use Rattle.init_match.specs.declared.answers.InitFault.TheVariants.{SizeMismatch, WorldFull}
-use Rattle.init_match.specs.declared.keys.Side.{Side}
-use Rattle.init_match.specs.declared.keys.Side.TheVariants.{Send, Recv}
+use Rattle.part_geometry.specs.declared.answers.Side.{Side}
+use Rattle.part_geometry.specs.declared.answers.Side.TheVariants.{SendSide, RecvSide}
 use Rattle.init_match.specs.declared.keys.Key.{Key}
 use Rattle.init_match.specs.declared.keys.Call.{Call}
 use Rattle.init_match.specs.Calls.{total, of_key}
@@ -30,13 +31,13 @@ SizesAgree calls = (p : Pair) → ArePaired calls p → total p.send.1 ≡ total
 record IsGood (ranks : ℕ) (before rest : List Call) : Type 0 where
   fits : sum_by (faulty ranks) rest ≡ 0
   sizes : SizesAgree (before ++ rest)
-  room : volume before + volume rest ≤ 67108864
+  room : volume before + volume rest ≤ MAX_VOLUME
 
 -- what an answer says
 record IsTaken (w : WorldState) (c : Call) : Type 0 where
   number : number_fault w.ranks c ≡ None
   size : size_fault (completed_by w.calls c) ≡ None
-  room : volume w.calls + total c ≤ 67108864
+  room : volume w.calls + total c ≤ MAX_VOLUME
 
 answer_of : Option InitFault → Option InitFault → Bool → ℕ → ℕ → Result ℕ InitFault
 answer_of f g full sum slot = option_map_or Err f (option_map_or Err g (cond full (Err (WorldFull sum)) (Ok slot)))
@@ -48,15 +49,15 @@ taken_by None None true sum slot ok = absurd (false≢true ok)
 taken_by None (Some g) full sum slot ok = absurd (false≢true ok)
 taken_by (Some f) g full sum slot ok = absurd (false≢true ok)
 
-answer_is : (w : WorldState) (c : Call) → init_answer w c ≡ answer_of (number_fault w.ranks c) (size_fault (completed_by w.calls c)) (nat_lt 67108864 (volume w.calls + total c)) (volume w.calls + total c) (length w.calls)
+answer_is : (w : WorldState) (c : Call) → init_answer w c ≡ answer_of (number_fault w.ranks c) (size_fault (completed_by w.calls c)) (nat_lt MAX_VOLUME (volume w.calls + total c)) (volume w.calls + total c) (length w.calls)
 unfolding answer_of
 answer_is w c = refl
 
 taken : (w : WorldState) (c : Call) → IsOk (init_answer w c) → IsTaken w c
 taken w c ok =
-    let h = taken_by (number_fault w.ranks c) (size_fault (completed_by w.calls c)) (nat_lt 67108864 (volume w.calls + total c)) (volume w.calls + total c) (length w.calls)
+    let h = taken_by (number_fault w.ranks c) (size_fault (completed_by w.calls c)) (nat_lt MAX_VOLUME (volume w.calls + total c)) (volume w.calls + total c) (length w.calls)
     (subst (λ a. IsOk a) (answer_is w c) ok) in
-    record { number = h.0; size = h.1; room = ltb-false 67108864 (volume w.calls + total c) h.2 }
+    record { number = h.0; size = h.1; room = ltb-false MAX_VOLUME (volume w.calls + total c) h.2 }
 
 gives : (f g : Option InitFault) (full : Bool) (sum slot : ℕ) → f ≡ None → g ≡ None → full ≡ false → answer_of f g full sum slot ≡ Ok slot
 unfolding answer_of
@@ -64,8 +65,8 @@ gives f g full sum slot a b d = rw (a, b, d) refl
 
 taken_answer : (w : WorldState) (c : Call) → IsTaken w c → init_answer w c ≡ Ok (length w.calls)
 taken_answer w c t =
-    answer_is w c ∙ gives (number_fault w.ranks c) (size_fault (completed_by w.calls c)) (nat_lt 67108864 (volume w.calls + total c)) (volume w.calls + total c) (length w.calls)
-    t.number t.size (le-ltb 67108864 (volume w.calls + total c) t.room)
+    answer_is w c ∙ gives (number_fault w.ranks c) (size_fault (completed_by w.calls c)) (nat_lt MAX_VOLUME (volume w.calls + total c)) (volume w.calls + total c) (length w.calls)
+    t.number t.size (le-ltb MAX_VOLUME (volume w.calls + total c) t.room)
 
 with_call : WorldState → Call → WorldState
 with_call w c = record w { calls = w.calls ++ c ∷ [] }
@@ -103,7 +104,7 @@ fault_none None e = refl
 fault_none (Some f) e = absurd (omega arith)
 
 -- accepted calls are good, and good ones are accepted
-accepted_good : (w : WorldState) (rest : List Call) → SizesAgree w.calls → volume w.calls ≤ 67108864 → AreAccepted w rest → IsGood w.ranks w.calls rest
+accepted_good : (w : WorldState) (rest : List Call) → SizesAgree w.calls → volume w.calls ≤ MAX_VOLUME → AreAccepted w rest → IsGood w.ranks w.calls rest
 accepted_good w [] sizes room a = record {
   fits = refl;
   sizes = subst SizesAgree (append_none w.calls) sizes;
@@ -154,10 +155,10 @@ moved xs ys s q k n same is = ap (λ g. slice_get g k) (sym (same s q)) ∙ is
 
 same_sizes : (xs ys : List Named) → SameGroups ys xs → SizesAgree (map (λ c. c.call) xs) → SizesAgree (map (λ c. c.call) ys)
 same_sizes xs ys same sizes p h =
-    let s = slot_named Send h.key ys h.turn p.send h.send in
-    let r = slot_named Recv h.key ys h.turn p.recv h.recv in
-    let s' = named_slot Send h.key xs h.turn s.0 (moved ys xs Send h.key h.turn s.0 same s.1) in
-    let r' = named_slot Recv h.key xs h.turn r.0 (moved ys xs Recv h.key h.turn r.0 same r.1) in
+    let s = slot_named SendSide h.key ys h.turn p.send h.send in
+    let r = slot_named RecvSide h.key ys h.turn p.recv h.recv in
+    let s' = named_slot SendSide h.key xs h.turn s.0 (moved ys xs SendSide h.key h.turn s.0 same s.1) in
+    let r' = named_slot RecvSide h.key xs h.turn r.0 (moved ys xs RecvSide h.key h.turn r.0 same r.1) in
     let e = sizes (record { send = s'.0; recv = r'.0 }) (record { key = h.key; turn = h.turn; send = s'.1; recv = r'.1 }) in
     ap total (sym s.2.call ∙ s'.2.call) ∙ e ∙ ap total (sym r'.2.call ∙ r.2.call)
 
@@ -167,10 +168,10 @@ the_same o a b is_a is_b = cc
 same_pairs : (xs ys : List Named) → SameGroups xs ys → (a b : Named) → AreMatched xs a b → AreMatched ys a b
 same_pairs xs ys same a b m =
     let h = m.paired in
-    let s = slot_named Send h.key xs h.turn m.pair.send h.send in
-    let r = slot_named Recv h.key xs h.turn m.pair.recv h.recv in
-    let s' = named_slot Send h.key ys h.turn s.0 (moved xs ys Send h.key h.turn s.0 same s.1) in
-    let r' = named_slot Recv h.key ys h.turn r.0 (moved xs ys Recv h.key h.turn r.0 same r.1) in
+    let s = slot_named SendSide h.key xs h.turn m.pair.send h.send in
+    let r = slot_named RecvSide h.key xs h.turn m.pair.recv h.recv in
+    let s' = named_slot SendSide h.key ys h.turn s.0 (moved xs ys SendSide h.key h.turn s.0 same s.1) in
+    let r' = named_slot RecvSide h.key ys h.turn r.0 (moved xs ys RecvSide h.key h.turn r.0 same r.1) in
     record {
       pair = record { send = s'.0; recv = r'.0 };
       paired = record { key = h.key; turn = h.turn; send = s'.1; recv = r'.1 };

@@ -7,6 +7,8 @@ use Rattle.part_geometry.specs.Shape.{IsWithin}
 use Rattle.std.proofs.lemmas.List.{map-append}
 use Rattle.std.proofs.lemmas.List.Sums.{sum_by_push}
 use Rattle.std.proofs.Math.Nat.{one-le-mul}
+use Rattle.part_geometry.specs.declared.TheConstants.{MAX_GRAIN, MAX_DEPTH}
+use Rattle.init_match.specs.declared.TheConstants.{MAX_VOLUME}
 use Rattle.init_match.specs.declared.answers.InitFault.{InitFault}
 use Rattle.init_match.specs.declared.answers.Matched.{Matched}
 use Rattle.init_match.specs.declared.keys.Call.{Call}
@@ -68,7 +70,7 @@ pub record IsGrownWorld (w new : Inside) (c : Call) : Type 0 where
   pub depth : new.depth ≡ w.depth
   pub ledger : new.ledger ≡ w.ledger ++ c ∷ []
   pub sum : new.sum ≡ w.sum + total c
-  pub few : new.sum ≤ 67108864
+  pub few : new.sum ≤ MAX_VOLUME
   pub pairs : new.pairs.items ≡ w.pairs.items ++ option_to_list (option_map (matched_as w.grain w.depth) (completed_by w.ledger c))
 
 map-option : {X Y : Type 0} (f : X → Y) (o : Option X) → option_to_list (option_map f o) ≡ map f (option_to_list o)
@@ -114,7 +116,7 @@ within low high n test is holds =
     let h = and_parts (nat_le low n) (nat_le n high) (sym is ∙ holds) in
     (leb-true low n h.0, leb-true n high h.1)
 
-pub world_first : (w : Inside) → IsWithin 1 16777216 w.grain → IsWithin 1 4 w.depth → w.sum ≡ 0 → w.ledger ≡ [] → w.pairs.items ≡ [] → IsWorld w
+pub world_first : (w : Inside) → IsWithin 1 MAX_GRAIN w.grain → IsWithin 1 MAX_DEPTH w.depth → w.sum ≡ 0 → w.ledger ≡ [] → w.pairs.items ≡ [] → IsWorld w
 unfolding pairs_of
 world_first w grain depth sum calls pairs = record {
   grain = grain;

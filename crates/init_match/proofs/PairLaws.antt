@@ -3,8 +3,8 @@ use Rattle.std.proofs.Common.{◌≡◌, ◌⊎◌, ℕ, zero, suc, ◌+◌, ◌
 use Rattle.std.specs.List.{slice_get}
 use Rattle.std.specs.Option.{option_map, option_to_list}
 use Rattle.std.proofs.lemmas.Option.{slice_get_within}
-use Rattle.init_match.specs.declared.keys.Side.{Side}
-use Rattle.init_match.specs.declared.keys.Side.TheVariants.{Send, Recv}
+use Rattle.part_geometry.specs.declared.answers.Side.{Side}
+use Rattle.part_geometry.specs.declared.answers.Side.TheVariants.{SendSide, RecvSide}
 use Rattle.init_match.specs.declared.keys.Call.{Call}
 use Rattle.init_match.specs.Calls.{of_key, facing}
 use Rattle.init_match.specs.Matching.{Pair, ArePaired, AreThePairs, turn_of, partner_before, pair_with, completed_by, pairs_after, pairs_of, later_slot}
@@ -52,8 +52,8 @@ some_pair f None b is = cc
 some_pair f (Some a) b is = (a, refl, cc)
 
 by_side : (side : Side) (own other : ℕ × Call) → other.0 < own.0 → later_slot (pair_with side own other) ≡ own.0
-by_side Send own other less = omega arith
-by_side Recv own other less = omega arith
+by_side SendSide own other less = omega arith
+by_side RecvSide own other less = omega arith
 
 completed_later : (before : List Call) (c : Call) (p : Pair) → completed_by before c ≡ Some p → later_slot p ≡ length before
 completed_later before c p is =

@@ -4,8 +4,8 @@ use Rattle.std.specs.List.{slice_get, filter, enumerate_from}
 use Rattle.std.specs.Option.{option_map}
 use Rattle.std.proofs.lemmas.Bool.{and_parts, false≢true}
 use Rattle.std.proofs.lemmas.List.Elements.{filter-append}
-use Rattle.init_match.specs.declared.keys.Side.{Side}
-use Rattle.init_match.specs.declared.keys.Side.TheVariants.{Send, Recv}
+use Rattle.part_geometry.specs.declared.answers.Side.{Side}
+use Rattle.part_geometry.specs.declared.answers.Side.TheVariants.{SendSide, RecvSide}
 use Rattle.init_match.specs.declared.keys.Key.{Key}
 use Rattle.init_match.specs.declared.keys.Call.{Call}
 use Rattle.init_match.specs.Calls.{is_of, of_key, facing, same_side, same_key}
@@ -38,14 +38,14 @@ last_or_before (y ∷ xs) b x (suc k) e is =
 
 -- a call is of its side and key, and of no other
 pub side-same : (a b : Side) → same_side a b ≡ true → a ≡ b
-side-same Send Send e = refl
-side-same Recv Recv e = refl
-side-same Send Recv e = absurd (false≢true e)
-side-same Recv Send e = absurd (false≢true e)
+side-same SendSide SendSide e = refl
+side-same RecvSide RecvSide e = refl
+side-same SendSide RecvSide e = absurd (false≢true e)
+side-same RecvSide SendSide e = absurd (false≢true e)
 
 same-side : (a : Side) → same_side a a ≡ true
-same-side Send = refl
-same-side Recv = refl
+same-side SendSide = refl
+same-side RecvSide = refl
 
 pub own_parts : (s : Side) (q : Key) (c : Call) → is_of s q c ≡ true → (s ≡ c.side) × (q ≡ c.key)
 own_parts s q c is = let h = and_parts (same_side s c.side) (same_key q c.key) is in (side-same s c.side h.0, key-same q c.key h.1)
@@ -53,8 +53,8 @@ own_parts s q c is = let h = and_parts (same_side s c.side) (same_key q c.key) i
 pub is_own : (c : Call) → is_of c.side c.key c ≡ true
 is_own c = ap (λ b. b && same_key c.key c.key) (same-side c.side) ∙ same-key c.key
 
-Send≢Recv : Send ≡ Recv → ⊥
-Send≢Recv e = cc
+SendSide≢RecvSide : SendSide ≡ RecvSide → ⊥
+SendSide≢RecvSide e = cc
 
 -- the calls of a side and a key, with more calls behind
 enumerate-append : {X : Type 0} (n : ℕ) (xs ys : List X) → enumerate_from n (xs ++ ys) ≡ enumerate_from n xs ++ enumerate_from (n + length xs) ys
@@ -71,7 +71,7 @@ get_of_key s q xs ys k e is = ap (λ es. slice_get es k) (of_key-append s q xs y
 
 -- a pair stays one
 pub paired_stays : (xs ys : List Call) (p : Pair) → ArePaired xs p → ArePaired (xs ++ ys) p
-paired_stays xs ys p h = record { key = h.key; turn = h.turn; send = get_of_key Send h.key xs ys h.turn p.send h.send; recv = get_of_key Recv h.key xs ys h.turn p.recv h.recv }
+paired_stays xs ys p h = record { key = h.key; turn = h.turn; send = get_of_key SendSide h.key xs ys h.turn p.send h.send; recv = get_of_key RecvSide h.key xs ys h.turn p.recv h.recv }
 
 -- the last call is the one of its turn
 pub last_own : (before : List Call) (c : Call) → slice_get (of_key c.side c.key (before ++ c ∷ [])) (turn_of before c) ≡ Some (length before, c)
@@ -86,8 +86,8 @@ some_pair f (Some a) b is = (a, refl, cc)
 
 pub by_side : (side : Side) (key : Key) (calls : List Call) (own other : ℕ × Call) (k : ℕ) → slice_get (of_key side key calls) k ≡ Some own → slice_get (of_key (facing side) key calls) k ≡ Some other
     → ArePaired calls (pair_with side own other)
-by_side Send key calls own other k o f = record { key = key; turn = k; send = o; recv = f }
-by_side Recv key calls own other k o f = record { key = key; turn = k; send = f; recv = o }
+by_side SendSide key calls own other k o f = record { key = key; turn = k; send = o; recv = f }
+by_side RecvSide key calls own other k o f = record { key = key; turn = k; send = f; recv = o }
 
 pub completed_paired : (before : List Call) (c : Call) (p : Pair) → completed_by before c ≡ Some p → ArePaired (before ++ c ∷ []) p
 completed_paired before c p is =
@@ -107,17 +107,17 @@ completes side key before c other is_side is_key found =
 pub paired_cases : (before : List Call) (c : Call) (p : Pair) → ArePaired (before ++ c ∷ []) p → ArePaired before p ⊎ (completed_by before c ≡ Some p)
 paired_cases before c p h =
     let q = h.key in let k = h.turn in
-    elim (last_or_before (of_key Send q before) (is_of Send q c) (length before, c) k p.send (ap (λ es. slice_get es k) (sym (of_key-more Send q before c)) ∙ h.send)) [
-      | inl send ↦ elim (last_or_before (of_key Recv q before) (is_of Recv q c) (length before, c) k p.recv (ap (λ es. slice_get es k) (sym (of_key-more Recv q before c)) ∙ h.recv)) [
+    elim (last_or_before (of_key SendSide q before) (is_of SendSide q c) (length before, c) k p.send (ap (λ es. slice_get es k) (sym (of_key-more SendSide q before c)) ∙ h.send)) [
+      | inl send ↦ elim (last_or_before (of_key RecvSide q before) (is_of RecvSide q c) (length before, c) k p.recv (ap (λ es. slice_get es k) (sym (of_key-more RecvSide q before c)) ∙ h.recv)) [
         | inl recv ↦ inl (record { key = q; turn = k; send = send; recv = recv })
         | inr last ↦
-            let own = own_parts Recv q c last.1 in
-            inr (completes Recv q before c p.send own.0 own.1 (ap (slice_get (of_key Send q before)) (sym last.0) ∙ send) ∙ ap (λ e. Some (record { send = p.send; recv = e })) last.2)
+            let own = own_parts RecvSide q c last.1 in
+            inr (completes RecvSide q before c p.send own.0 own.1 (ap (slice_get (of_key SendSide q before)) (sym last.0) ∙ send) ∙ ap (λ e. Some (record { send = p.send; recv = e })) last.2)
       ]
-      | inr last ↦ elim (last_or_before (of_key Recv q before) (is_of Recv q c) (length before, c) k p.recv (ap (λ es. slice_get es k) (sym (of_key-more Recv q before c)) ∙ h.recv)) [
+      | inr last ↦ elim (last_or_before (of_key RecvSide q before) (is_of RecvSide q c) (length before, c) k p.recv (ap (λ es. slice_get es k) (sym (of_key-more RecvSide q before c)) ∙ h.recv)) [
         | inl recv ↦
-            let own = own_parts Send q c last.1 in
-            inr (completes Send q before c p.recv own.0 own.1 (ap (slice_get (of_key Recv q before)) (sym last.0) ∙ recv) ∙ ap (λ e. Some (record { send = e; recv = p.recv })) last.2)
-        | inr both ↦ absurd (Send≢Recv ((own_parts Send q c last.1).0 ∙ sym (own_parts Recv q c both.1).0))
+            let own = own_parts SendSide q c last.1 in
+            inr (completes SendSide q before c p.recv own.0 own.1 (ap (slice_get (of_key RecvSide q before)) (sym last.0) ∙ recv) ∙ ap (λ e. Some (record { send = e; recv = p.recv })) last.2)
+        | inr both ↦ absurd (SendSide≢RecvSide ((own_parts SendSide q c last.1).0 ∙ sym (own_parts RecvSide q c both.1).0))
       ]
     ]

@@ -4,8 +4,8 @@ use Rattle.std.specs.List.{slice_get, filter, enumerate_from}
 use Rattle.std.specs.Option.{option_map}
 use Rattle.std.proofs.lemmas.Bool.{cases_Bool, cases_lt}
 use Rattle.std.proofs.lemmas.Option.{slice_get-map}
-use Rattle.init_match.specs.declared.keys.Side.{Side}
-use Rattle.init_match.specs.declared.keys.Side.TheVariants.{Send, Recv}
+use Rattle.part_geometry.specs.declared.answers.Side.{Side}
+use Rattle.part_geometry.specs.declared.answers.Side.TheVariants.{SendSide, RecvSide}
 use Rattle.init_match.specs.declared.keys.Key.{Key}
 use Rattle.init_match.specs.declared.keys.Call.{Call}
 use Rattle.init_match.specs.Calls.{is_of, of_key, facing}
@@ -67,8 +67,8 @@ some_of f (Some a) b is = (a, refl, cc)
 
 sides : (side : Side) (own other : ℕ × Call) (i j : ℕ) → own.0 ≡ i → other.0 ≡ j
     → (((pair_with side own other).send.0 ≡ i) × ((pair_with side own other).recv.0 ≡ j)) ⊎ (((pair_with side own other).recv.0 ≡ i) × ((pair_with side own other).send.0 ≡ j))
-sides Send own other i j a b = inl (a, b)
-sides Recv own other i j a b = inr (a, b)
+sides SendSide own other i j a b = inl (a, b)
+sides RecvSide own other i j a b = inr (a, b)
 
 partners : (calls : List Call) (i j : ℕ) → partner_of calls i ≡ Some j → ArePartners calls i j
 partners calls i j is = by_call (slice_get calls i) refl
@@ -104,8 +104,8 @@ partner_back : (calls : List Call) (i j : ℕ) → ArePartners calls i j → par
 partner_back calls i j h =
     let p = h.paired in
     elim h.slots [
-      | inl s ↦ ap (partner_of calls) (sym s.0) ∙ turn_partner Send p.key calls h.pair.send h.pair.recv p.turn p.send p.recv ∙ ap Some s.1
-      | inr s ↦ ap (partner_of calls) (sym s.0) ∙ turn_partner Recv p.key calls h.pair.recv h.pair.send p.turn p.recv p.send ∙ ap Some s.1
+      | inl s ↦ ap (partner_of calls) (sym s.0) ∙ turn_partner SendSide p.key calls h.pair.send h.pair.recv p.turn p.send p.recv ∙ ap Some s.1
+      | inr s ↦ ap (partner_of calls) (sym s.0) ∙ turn_partner RecvSide p.key calls h.pair.recv h.pair.send p.turn p.recv p.send ∙ ap Some s.1
     ]
 
 pub the_partner : IsThePartner

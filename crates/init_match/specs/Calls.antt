@@ -1,20 +1,20 @@
 -- Initialisations, and which of them are of one side and one key (MPI 4.0, 4.2.1).
 use Rattle.std.specs.Prelude.{ℕ, ◌*◌, Bool, true, false, ◌&&◌, ◌==◌, List, filter, map}
 use Rattle.std.specs.List.{enumerate_from}
-use Rattle.init_match.specs.declared.keys.Side.{Side}
-use Rattle.init_match.specs.declared.keys.Side.TheVariants.{Send, Recv}
+use Rattle.part_geometry.specs.declared.answers.Side.{Side}
+use Rattle.part_geometry.specs.declared.answers.Side.TheVariants.{SendSide, RecvSide}
 use Rattle.init_match.specs.declared.keys.Key.{Key}
 use Rattle.init_match.specs.declared.keys.Call.{Call}
 
 abbrev pub same_side : Side → Side → Bool
-same_side Send Send = true
-same_side Recv Recv = true
+same_side SendSide SendSide = true
+same_side RecvSide RecvSide = true
 same_side _ _ = false
 
 -- the other side
 abbrev pub facing : Side → Side
-facing Send = Recv
-facing Recv = Send
+facing SendSide = RecvSide
+facing RecvSide = SendSide
 
 abbrev pub same_key : Key → Key → Bool
 same_key a b = (a.comm == b.comm) && ((a.from == b.from) && ((a.to == b.to) && (a.tag == b.tag)))

@@ -1,6 +1,6 @@
 -- What the list of accepted calls keeps besides.
 use Rattle.std.specs.Prelude.{◌≡◌, ℕ, List, [], ◌∷◌, ◌++◌}
-use Rattle.init_match.specs.declared.keys.Side.{Side}
+use Rattle.part_geometry.specs.declared.answers.Side.{Side}
 use Rattle.init_match.specs.declared.keys.Key.{Key}
 use Rattle.init_match.specs.declared.keys.Call.{Call}
 use Rattle.init_match.specs.declared.ledger.Ledger.TheInside.{Inside}

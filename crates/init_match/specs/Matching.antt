@@ -1,8 +1,8 @@
 -- Matching: the k-th accepted send of a key and the k-th accepted receive of that key are a pair, each counted among
 -- the accepted calls. By what calls match is after MPI 4.0, 4.2.1; in which order is this project's own.
 use Rattle.std.specs.Prelude.{◌≡◌, ◌⊎◌, ◌↔◌, ℕ, ◌<◌, Option, Some, List, [], ◌∷◌, ◌++◌, length, max, take, slice_get, option_map, option_and_then, option_to_list}
-use Rattle.init_match.specs.declared.keys.Side.{Side}
-use Rattle.init_match.specs.declared.keys.Side.TheVariants.{Send, Recv}
+use Rattle.part_geometry.specs.declared.answers.Side.{Side}
+use Rattle.part_geometry.specs.declared.answers.Side.TheVariants.{SendSide, RecvSide}
 use Rattle.init_match.specs.declared.keys.Key.{Key}
 use Rattle.init_match.specs.declared.keys.Call.{Call}
 use Rattle.init_match.specs.Calls.{facing, of_key}
@@ -16,8 +16,8 @@ pub record Pair : Type 0 where
 pub record ArePaired (calls : List Call) (p : Pair) : Type 0 where
   pub key : Key
   pub turn : ℕ
-  pub send : slice_get (of_key Send key calls) turn ≡ Some p.send
-  pub recv : slice_get (of_key Recv key calls) turn ≡ Some p.recv
+  pub send : slice_get (of_key SendSide key calls) turn ≡ Some p.send
+  pub recv : slice_get (of_key RecvSide key calls) turn ≡ Some p.recv
 
 -- how many calls of its own side and key a call finds when it is made
 abbrev pub turn_of : List Call → Call → ℕ
@@ -29,8 +29,8 @@ partner_before before c = slice_get (of_key (facing c.side) c.key before) (turn_
 
 -- a call of a side, and its partner
 abbrev pub pair_with : Side → ℕ × Call → ℕ × Call → Pair
-pair_with Send own other = record { send = own; recv = other }
-pair_with Recv own other = record { send = other; recv = own }
+pair_with SendSide own other = record { send = own; recv = other }
+pair_with RecvSide own other = record { send = other; recv = own }
 
 -- the pair that a call completes
 abbrev pub completed_by : List Call → Call → Option Pair

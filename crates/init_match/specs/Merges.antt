@@ -1,7 +1,7 @@
 -- The ranks' call lists and their merges: which pairs are made doesn't depend on the order in which ranks come.
 use Rattle.std.specs.Prelude.{◌≡◌, ℕ, Some, IsOk, List, [], ◌∷◌, map, slice_get, slice_index_or, slice_set, ⊤}
-use Rattle.init_match.specs.declared.keys.Side.{Side}
-use Rattle.init_match.specs.declared.keys.Side.TheVariants.{Send, Recv}
+use Rattle.part_geometry.specs.declared.answers.Side.{Side}
+use Rattle.part_geometry.specs.declared.answers.Side.TheVariants.{SendSide, RecvSide}
 use Rattle.init_match.specs.declared.keys.Key.{Key}
 use Rattle.init_match.specs.declared.keys.Call.{Call}
 use Rattle.init_match.specs.Matching.{Pair, ArePaired}
@@ -14,8 +14,8 @@ pub record Named : Type 0 where
 
 -- the rank that makes a call of a side and a key
 abbrev pub owner : Side → Key → ℕ
-owner Send key = key.from
-owner Recv key = key.to
+owner SendSide key = key.from
+owner RecvSide key = key.to
 
 -- each rank's list has only sends from that rank and receives to that rank
 abbrev pub AreOwn : List (List Named) → Type 0

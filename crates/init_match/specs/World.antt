@@ -2,13 +2,15 @@
 use Rattle.std.specs.Prelude.{ℕ, ◌+◌, ◌==◌, ◌&&◌, Bool, not, nat_lt, nat_le, if◌then◌else◌, Option, Some, None, Result, Ok, Err, List, [], ◌∷◌, ◌++◌, length, map, option_map, sum_by}
 use Rattle.std.specs.Option.{option_map_or}
 use Rattle.part_geometry.specs.Shape.{Shape}
+use Rattle.part_geometry.specs.declared.TheConstants.{MAX_PARTS, MAX_PART_BYTES, MAX_TOTAL, MAX_GRAIN, MAX_DEPTH}
+use Rattle.init_match.specs.declared.TheConstants.{MAX_RANKS, MAX_TAG, MAX_COMM, MAX_VOLUME}
 use Rattle.init_match.specs.declared.answers.InitFault.{InitFault}
 use Rattle.init_match.specs.declared.answers.InitFault.TheVariants.{BadRank, BadTag, BadComm, BadParts, BadBytes, TooLong, SizeMismatch, WorldFull}
 use Rattle.init_match.specs.declared.answers.WorldFault.{WorldFault}
 use Rattle.init_match.specs.declared.answers.WorldFault.TheVariants as fault
 use Rattle.init_match.specs.declared.answers.Matched.{Matched}
-use Rattle.init_match.specs.declared.keys.Side.{Side}
-use Rattle.init_match.specs.declared.keys.Side.TheVariants.{Send, Recv}
+use Rattle.part_geometry.specs.declared.answers.Side.{Side}
+use Rattle.part_geometry.specs.declared.answers.Side.TheVariants.{SendSide, RecvSide}
 use Rattle.init_match.specs.declared.keys.Call.{Call}
 use Rattle.init_match.specs.Calls.{total}
 use Rattle.init_match.specs.Matching.{Pair, completed_by, pairs_of}
@@ -27,9 +29,9 @@ is_within low high n = nat_le low n && nat_le n high
 -- a new world
 abbrev pub new_world : ℕ → ℕ → ℕ → Result WorldState WorldFault
 new_world ranks grain depth =
-    if not (is_within 1 64 ranks) then Err fault.BadRanks else (
-    if not (is_within 1 16777216 grain) then Err fault.BadGrain else (
-    if not (is_within 1 4 depth) then Err fault.BadDepth else
+    if not (is_within 1 MAX_RANKS ranks) then Err fault.BadRanks else (
+    if not (is_within 1 MAX_GRAIN grain) then Err fault.BadGrain else (
+    if not (is_within 1 MAX_DEPTH depth) then Err fault.BadDepth else
     Ok record { ranks = ranks; grain = grain; depth = depth; calls = [] }))
 
 -- an initialisation by its arguments
@@ -43,20 +45,20 @@ call_of side from to tag comm parts bytes = record {
 
 -- an initialisation of a send, and of a receive
 abbrev pub send_call : ℕ → ℕ → ℕ → ℕ → ℕ → ℕ → Call
-send_call from to tag comm parts bytes = call_of Send from to tag comm parts bytes
+send_call from to tag comm parts bytes = call_of SendSide from to tag comm parts bytes
 
 abbrev pub recv_call : ℕ → ℕ → ℕ → ℕ → ℕ → ℕ → Call
-recv_call from to tag comm parts bytes = call_of Recv from to tag comm parts bytes
+recv_call from to tag comm parts bytes = call_of RecvSide from to tag comm parts bytes
 
 -- the first fault in its numbers
 abbrev pub number_fault : ℕ → Call → Option InitFault
 number_fault ranks c =
     if not (nat_lt c.key.from ranks && nat_lt c.key.to ranks) then Some BadRank else (
-    if not (nat_le c.key.tag 32767) then Some BadTag else (
-    if not (nat_le c.key.comm 15) then Some BadComm else (
-    if not (is_within 1 1024 c.parts) then Some BadParts else (
-    if not (is_within 1 1048576 c.bytes) then Some BadBytes else (
-    if not (nat_le (total c) 16777216) then Some TooLong else None)))))
+    if not (nat_le c.key.tag MAX_TAG) then Some BadTag else (
+    if not (nat_le c.key.comm MAX_COMM) then Some BadComm else (
+    if not (is_within 1 MAX_PARTS c.parts) then Some BadParts else (
+    if not (is_within 1 MAX_PART_BYTES c.bytes) then Some BadBytes else (
+    if not (nat_le (total c) MAX_TOTAL) then Some TooLong else None)))))
 
 abbrev pub number_answer : ℕ → Call → Result (Unit {0}) InitFault
 number_answer ranks c = option_map_or Err (number_fault ranks c) (Ok tt)
@@ -96,7 +98,7 @@ abbrev pub init_answer : WorldState → Call → Result ℕ InitFault
 init_answer w c =
     option_map_or Err (number_fault w.ranks c) (
     option_map_or Err (size_fault (completed_by w.calls c)) (
-    if nat_lt 67108864 (volume w.calls + total c) then Err (WorldFull (volume w.calls + total c)) else Ok (length w.calls)))
+    if nat_lt MAX_VOLUME (volume w.calls + total c) then Err (WorldFull (volume w.calls + total c)) else Ok (length w.calls)))
 
 -- an accepted call stands behind those before; a refused one changes nothing
 abbrev pub after_init : WorldState → Call → Result ℕ InitFault → WorldState

@@ -2,54 +2,73 @@
 
 use part_geometry::Geometry;
 use std::alloc::AllocError;
-use thiserror::Error;
+use std::error::Error;
+use std::fmt;
 
 /// Why three numbers make no world. They are tried in this order.
-#[derive(Clone, Copy, Debug, PartialEq, Eq, Error)]
+#[derive(Clone, Copy, Debug, PartialEq, Eq)]
 pub enum WorldFault {
     /// The ranks aren't from 1 to 64.
-    #[error("a world has 1 to 64 ranks")]
     BadRanks,
     /// The grain isn't from 1 to 16,777,216.
-    #[error("the grain is 1 to 16777216 bytes")]
     BadGrain,
     /// The depth isn't from 1 to 4.
-    #[error("the depth is 1 to 4 rounds")]
     BadDepth,
 }
 
+impl fmt::Display for WorldFault {
+    fn fmt<W: fmt::Write>(&self, f: &mut fmt::Formatter<W>) -> fmt::Result {
+        f.write_str(match self {
+            WorldFault::BadRanks => "a world has 1 to 64 ranks",
+            WorldFault::BadGrain => "the grain is 1 to 16777216 bytes",
+            WorldFault::BadDepth => "the depth is 1 to 4 rounds",
+        })
+    }
+}
+
+impl Error for WorldFault {}
+
 /// Why an initialisation was refused. The causes are tried in this order, but for `NoMemory`, which may come in place
 /// of any other answer.
-#[derive(Clone, Copy, Debug, PartialEq, Eq, Error)]
+#[derive(Clone, Copy, Debug, PartialEq, Eq)]
 pub enum InitFault {
     /// There is no such rank.
-    #[error("no such rank")]
     BadRank,
     /// The tag is above 32,767.
-    #[error("a tag is at most 32767")]
     BadTag,
     /// The communicator is above 15.
-    #[error("a communicator is at most 15")]
     BadComm,
     /// The number of partitions isn't from 1 to 1,024.
-    #[error("a side has 1 to 1024 partitions")]
     BadParts,
     /// The bytes of a partition aren't from 1 to 1,048,576.
-    #[error("a partition has 1 to 1048576 bytes")]
     BadBytes,
     /// There are more than 16,777,216 bytes in all.
-    #[error("a message has at most 16777216 bytes")]
     TooLong,
     /// The call that this one would be paired with has another number of bytes in all.
-    #[error("the sender has {send_total} bytes and the receiver {recv_total}")]
     SizeMismatch { send_total: u32, recv_total: u32 },
     /// With this call the accepted ones would have this many bytes in all, which is more than 67,108,864.
-    #[error("all initialisations together have {sum} bytes")]
     WorldFull { sum: u64 },
     /// There is no memory for it.
-    #[error("out of memory")]
     NoMemory,
 }
+
+impl fmt::Display for InitFault {
+    fn fmt<W: fmt::Write>(&self, f: &mut fmt::Formatter<W>) -> fmt::Result {
+        f.write_str(match self {
+            InitFault::BadRank => "no such rank",
+            InitFault::BadTag => "a tag is at most 32767",
+            InitFault::BadComm => "a communicator is at most 15",
+            InitFault::BadParts => "a side has 1 to 1024 partitions",
+            InitFault::BadBytes => "a partition has 1 to 1048576 bytes",
+            InitFault::TooLong => "a message has at most 16777216 bytes",
+            InitFault::SizeMismatch { .. } => "the two sides have different numbers of bytes",
+            InitFault::WorldFull { .. } => "all initialisations together have too many bytes",
+            InitFault::NoMemory => "out of memory",
+        })
+    }
+}
+
+impl Error for InitFault {}
 
 impl From<AllocError> for InitFault {
     ghost use Rattle.std.specs.Prelude.{◌≡◌};

@@ -1,39 +1,27 @@
 //! Initialisations, and the slots of each key.
 
 ghost use Rattle.std.specs.Prelude.{◌≡◌, ◌<◌, ◌&&◌, [], length, slice_index_or, slice_set, IfOk, OnErr, OnOk, Some};
-ghost use Rattle.init_match.specs.Calls.{same_key, same_side};
+ghost use Rattle.init_match.specs.Calls.{facing, same_key, same_side};
 ghost use Rattle.init_match.specs.Slots.{no_slots, with_slot};
 
+use part_geometry::Side;
 use std::alloc::{AllocError, Global};
 use std::collections::BTreeMap;
 use std::marker::Model;
 
-/// Which side an initialisation is of.
-#[derive(Clone, Copy, Debug, PartialEq, Eq)]
-pub(crate) enum Side {
-    /// The sender's (`MPI_Psend_init`).
-    Send,
-    /// The receiver's (`MPI_Precv_init`).
-    Recv,
-}
-
-impl Side {
-    ghost use Rattle.init_match.specs.Calls.{facing};
-
-    /// The other side.
-    pub(crate) fn facing(self) -> Side
-        ensures { result ≡ facing self }
-    {
-        match self {
-            Side::Send => Side::Recv,
-            Side::Recv => Side::Send,
-        }
+/// The other side.
+pub(crate) fn facing(side: Side) -> Side
+    ensures { result ≡ facing side }
+{
+    match side {
+        Side::SendSide => Side::RecvSide,
+        Side::RecvSide => Side::SendSide,
     }
 }
 
 /// What both initialisations of a pair have in common: the communicator, the ranks of the sender and the receiver,
 /// and the tag (MPI 4.0, 4.2.1).
-#[derive(Clone, Copy, Debug, PartialEq, Eq, PartialOrd, Ord)]
+#[derive(Clone, Copy, PartialEq, Eq, PartialOrd, Ord)]
 pub(crate) struct Key {
     pub(crate) comm: u32,
     pub(crate) from: u32,
@@ -42,7 +30,7 @@ pub(crate) struct Key {
 }
 
 /// An initialisation of one side: how many partitions it has, and how many bytes a partition has.
-#[derive(Clone, Copy, Debug, PartialEq, Eq)]
+#[derive(Clone, Copy)]
 pub(crate) struct Call {
     pub(crate) side: Side,
     pub(crate) key: Key,
@@ -110,8 +98,8 @@ impl KeySlots {
         ensures { result.now ≡ side_slots side self.now }
     {
         match side {
-            Side::Send => self.sends.as_slice(),
-            Side::Recv => self.recvs.as_slice(),
+            Side::SendSide => self.sends.as_slice(),
+            Side::RecvSide => self.recvs.as_slice(),
         }
     }
 
@@ -121,8 +109,8 @@ impl KeySlots {
         ensures err { OnErr result (self.new ≡ self.old) }
     {
         match side {
-            Side::Send => self.sends.push(slot)?,
-            Side::Recv => self.recvs.push(slot)?,
+            Side::SendSide => self.sends.push(slot)?,
+            Side::RecvSide => self.recvs.push(slot)?,
         }
         Ok(())
     }

@@ -3,7 +3,7 @@
 ghost use Rattle.std.specs.Prelude.{◌≡◌, ◌<◌, ◌^◌, [], ◌∷◌, ◌++◌, length, OnErr, OnOk};
 ghost use Rattle.init_match.specs.Matching.{partner_before, partner_of};
 
-use crate::keys::{Call, KeyLists};
+use crate::keys::{Call, KeyLists, facing};
 use std::alloc::{AllocError, Global};
 use std::marker::Model;
 
@@ -52,7 +52,7 @@ impl Ledger {
         ensures { result ≡ partner_before self.now call }
     {
         let turn = self.keys.of(call.side, call.key).len();
-        match self.keys.of(call.side.facing(), call.key).get(turn) {
+        match self.keys.of(facing(call.side), call.key).get(turn) {
             Some(slot) => Some((*slot, self.calls[*slot as usize])),
             None => None,
         }
@@ -64,10 +64,7 @@ impl Ledger {
     {
         let call = self.calls.get(slot)?;
         let turn = self.turns[slot] as usize;
-        self.keys
-            .of(call.side.facing(), call.key)
-            .get(turn)
-            .copied()
+        self.keys.of(facing(call.side), call.key).get(turn).copied()
     }
 
     /// One call more. It takes all memory before anything changes.

@@ -6,10 +6,20 @@ mod keys;
 mod laws;
 mod ledger;
 mod numbers;
-#[cfg(test)]
-mod tests;
 mod world;
 
 pub use answers::{InitFault, Matched, WorldFault};
 pub use laws::match_laws;
 pub use world::World;
+
+/// The most ranks of a world.
+pub const MAX_RANKS: u32 = 64;
+
+/// The greatest tag.
+pub const MAX_TAG: u32 = 32_767;
+
+/// The greatest communicator.
+pub const MAX_COMM: u32 = 15;
+
+/// The most bytes of all accepted initialisations of a world together.
+pub const MAX_VOLUME: u64 = 67_108_864;

@@ -6,21 +6,8 @@ ghost use Rattle.init_match.specs.World.{is_within, number_answer};
 
 use crate::answers::InitFault;
 use crate::keys::Call;
-
-/// The greatest tag.
-const MAX_TAG: u32 = 32_767;
-
-/// The greatest communicator.
-const MAX_COMM: u32 = 15;
-
-/// The most partitions of a side.
-const MAX_PARTS: u32 = 1024;
-
-/// The most bytes of a partition.
-const MAX_PART_BYTES: u32 = 1_048_576;
-
-/// The most bytes of a message.
-const MAX_TOTAL: u32 = 16_777_216;
+use crate::{MAX_COMM, MAX_TAG};
+use part_geometry::{MAX_PART_BYTES, MAX_PARTS, MAX_TOTAL};
 
 /// Whether a number is from `low` to `high`.
 pub(crate) fn is_within(low: u32, high: u32, n: u32) -> bool

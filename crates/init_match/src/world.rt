@@ -1,30 +1,20 @@
 //! A world of ranks, whose initialisations are matched as they come.
 
 ghost use Rattle.std.specs.Prelude.{◌≡◌, ◌≢◌, ◌<◌, ◌==◌, if◌then◌else◌, Err, Ok, Some, length, slice_get};
+ghost use Rattle.part_geometry.specs.declared.TheConstants.{MAX_DEPTH, MAX_GRAIN};
 ghost use Rattle.part_geometry.specs.Shape.{IsWithin};
 ghost use Rattle.init_match.specs.Calls.{total};
 ghost use Rattle.init_match.specs.Sound.{IsFit};
 ghost use Rattle.init_match.specs.World.{shape_of};
 
 use crate::answers::{InitFault, Matched, WorldFault};
-use crate::keys::{Call, Side};
+use crate::keys::Call;
 use crate::ledger::Ledger;
 use crate::numbers::{check_numbers, is_within};
-use part_geometry::Geometry;
+use crate::{MAX_RANKS, MAX_VOLUME};
+use part_geometry::{Geometry, MAX_DEPTH, MAX_GRAIN, Side};
 use std::alloc::Global;
 use std::marker::Model;
-
-/// The most ranks of a world.
-const MAX_RANKS: u32 = 64;
-
-/// The greatest grain.
-const MAX_GRAIN: u32 = 16_777_216;
-
-/// The most rounds in flight.
-const MAX_DEPTH: u32 = 4;
-
-/// The most bytes of all accepted initialisations together.
-const MAX_VOLUME: u64 = 67_108_864;
 
 /// Ranks that exchange messages by partitioned pairs. Each initialisation is matched as it comes with one of the other
 /// side that has the same communicator, ranks and tag (MPI 4.0, 4.2.1), the first with the first, the second with the
@@ -53,8 +43,8 @@ impl Model for World {
 
 /// The geometry of a send and a receive that keep the limits. Their bytes in all differ where there is none.
 fn geometry_of(grain: u32, depth: u32, send: Call, recv: Call) -> Result<Geometry, InitFault>
-    requires grain { IsWithin 1 16777216 grain }
-    requires depth { IsWithin 1 4 depth }
+    requires grain { IsWithin 1 MAX_GRAIN grain }
+    requires depth { IsWithin 1 MAX_DEPTH depth }
     requires send { IsFit send }
     requires recv { IsFit recv }
     ensures { result ≡ (if total send == total recv then Ok (shape_of grain depth send recv) else Err (InitFault.SizeMismatch (total send) (total recv))) }
@@ -71,12 +61,12 @@ fn geometry_of(grain: u32, depth: u32, send: Call, recv: Call) -> Result<Geometr
 }
 
 impl World {
-    ghost use Rattle.init_match.specs.World.{after_init, call_of, completed_answer, init_answer, matched_pairs, new_world};
+    ghost use Rattle.init_match.specs.World.{after_init, completed_answer, init_answer, matched_pairs, new_world, recv_call, send_call};
     ghost use Rattle.init_match.specs.Matching.{pairs_of, partner_of};
 
     /// A world of `ranks` ranks without initialisations, whose pairs have this grain and depth. It takes no memory.
     pub fn new(alloc: Global, ranks: u32, grain: u32, depth: u32) -> Result<World, WorldFault>
-        ensures { result ≡ new_world ranks grain depth }
+        ensures answer { result ≡ new_world ranks grain depth }
     {
         if !is_within(1, MAX_RANKS, ranks) {
             return Err(WorldFault::BadRanks);
@@ -109,10 +99,10 @@ impl World {
         parts: u32,
         bytes: u32,
     ) -> Result<u32, InitFault>
-        ensures answer { result ≢ Err InitFault.NoMemory → result ≡ init_answer self.old (call_of Side.Send from to tag comm parts bytes) }
-        ensures world { self.new ≡ after_init self.old (call_of Side.Send from to tag comm parts bytes) result }
+        ensures answer { result ≢ Err InitFault.NoMemory → result ≡ init_answer self.old (send_call from to tag comm parts bytes) }
+        ensures world { self.new ≡ after_init self.old (send_call from to tag comm parts bytes) result }
     {
-        self.init(Call::new(Side::Send, from, to, tag, comm, parts, bytes))
+        self.init(Call::new(Side::SendSide, from, to, tag, comm, parts, bytes))
     }
 
     /// Initialises a receive of `parts` partitions of `bytes` bytes at rank `to` from rank `from` (`MPI_Precv_init`,
@@ -126,10 +116,10 @@ impl World {
         parts: u32,
         bytes: u32,
     ) -> Result<u32, InitFault>
-        ensures answer { result ≢ Err InitFault.NoMemory → result ≡ init_answer self.old (call_of Side.Recv from to tag comm parts bytes) }
-        ensures world { self.new ≡ after_init self.old (call_of Side.Recv from to tag comm parts bytes) result }
+        ensures answer { result ≢ Err InitFault.NoMemory → result ≡ init_answer self.old (recv_call from to tag comm parts bytes) }
+        ensures world { self.new ≡ after_init self.old (recv_call from to tag comm parts bytes) result }
     {
-        self.init(Call::new(Side::Recv, from, to, tag, comm, parts, bytes))
+        self.init(Call::new(Side::RecvSide, from, to, tag, comm, parts, bytes))
     }
 
     /// Either of them.
@@ -164,8 +154,8 @@ impl World {
             return Ok(None);
         };
         let (send_slot, recv_slot, geometry) = match call.side {
-            Side::Send => (slot, other_slot, geometry_of(grain, depth, call, other)?),
-            Side::Recv => (other_slot, slot, geometry_of(grain, depth, other, call)?),
+            Side::SendSide => (slot, other_slot, geometry_of(grain, depth, call, other)?),
+            Side::RecvSide => (other_slot, slot, geometry_of(grain, depth, other, call)?),
         };
         Ok(Some(Matched {
             send_slot,
@@ -176,22 +166,22 @@ impl World {
 
     /// How many pairs are complete.
     pub fn pair_count(&self) -> u32
-        ensures { result ≡ length (pairs_of self.now.calls) }
+        ensures count { result ≡ length (pairs_of self.now.calls) }
     {
         self.pairs.len() as u32
     }
 
     /// The `n`-th pair from 0 on, in the order in which they were completed.
     pub fn pair(&self, n: u32) -> Matched
-        requires { n < length (pairs_of self.now.calls) }
-        ensures { slice_get (matched_pairs self.now) n ≡ Some result }
+        requires inside { n < length (pairs_of self.now.calls) }
+        ensures pair { slice_get (matched_pairs self.now) n ≡ Some result }
     {
         self.pairs[n as usize]
     }
 
     /// The other slot of the pair that a slot is in, and none where it isn't in one.
     pub fn partner(&self, slot: u32) -> Option<u32>
-        ensures { result ≡ partner_of self.now.calls slot }
+        ensures partner { result ≡ partner_of self.now.calls slot }
     {
         self.ledger.partner(slot as usize)
     }

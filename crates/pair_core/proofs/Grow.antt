@@ -62,11 +62,11 @@ module _ {A : Type 0} where
       let claim : ℕ → ℕ = λ c. s.word (Claim c) in let piece : ℕ → ℕ → ℕ = λ d j. s.word (Piece d j) in let released : ℕ = round_in (s.word Release) in
       let saw = seen_release g s 0 r (live_unspent (s.life 0) r.lives.send) in
       let n : IsNext g claim piece s.send released k i = ⊎_elim
-        (λ first. subst (IsNext g claim piece s.send released k) (sym first.0)
-        (next_first g v claim piece s.send s.recv released (round_in (s.seen 0 Release)) k r.progress r.gates r.pieces first.1 first.2 saw a.2 (let x = a.0 in omega arith)))
-        (λ more. subst (λ (z : ℕ). IsNext g claim piece s.send released z i) (sym more.2)
-        (next_more g v claim piece s.send s.recv released i r.progress r.gates r.pieces a.0 more.1))
-        a.3 in
+      (λ first. subst (IsNext g claim piece s.send released k) (sym first.0)
+      (next_first g v claim piece s.send s.recv released (round_in (s.seen 0 Release)) k r.progress r.gates r.pieces first.1 first.2 saw a.2 (let x = a.0 in omega arith)))
+      (λ more. subst (λ (z : ℕ). IsNext g claim piece s.send released z i) (sym more.2)
+      (next_more g v claim piece s.send s.recv released i r.progress r.gates r.pieces a.0 more.1))
+      a.3 in
       let old = n.older in let positive = n.some in let deep = v.depth.0 in omega arith
 
   stores_return_word : (g : Shape) → IsShape g → (s : Core A) (k t : ℕ) → Sound g s → IsAllowed g s (StoreReturn k t) → round_in (s.word (Return t)) < k

@@ -18,8 +18,6 @@ mod send;
 mod state;
 mod tables;
 mod take;
-#[cfg(test)]
-mod tests;
 pub mod view;
 
 pub use event::{Applied, Event};

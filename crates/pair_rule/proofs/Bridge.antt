@@ -1,6 +1,6 @@
 -- From a step of the core to a step of the table: where the core steps to a sound state and the view of the seat that makes
 -- the step follows it, the table has the rule again, and shows the core after the step.
-use Rattle.std.proofs.Common.{◌≡◌, ◌≢◌, ◌⊎◌, inl, inr, ⊎_elim, ℕ, suc, ◌+◌, ◌*◌, ◌%◌, ◌/◌, ◌++◌, ◌^◌, ◌<◌, ◌≤◌, Bool, true, false, List, [], ◌∷◌, length, get_or, set, Contains, Option, Some, None, refl, sym, ap, ◌∙◌, subst, arith, length-set}
+use Rattle.std.proofs.Common.{◌≡◌, ◌≢◌, ◌⊎◌, inl, inr, ⊎_elim, ℕ, ◌+◌, ◌<◌, ◌≤◌, Bool, true, List, length, get_or, set, Contains, Option, Some, refl, sym, ap, ◌∙◌, subst, arith, length-set}
 use mathlib.Core.Logic.{dite}
 use mathlib.Core.Option.{some, some-injective}
 use mathlib.Core.Option as maybe
@@ -9,23 +9,21 @@ use lib.ListN.{get_elem?}
 use Rattle.gate_word.specs.Words.{round_in}
 use Rattle.gate_word.specs.Order.{IsLater}
 use Rattle.atomic_table.proofs.Lists.{at_set, set_here, set_else}
-use Rattle.part_geometry.specs.Shape.{Shape, IsShape}
+use Rattle.part_geometry.specs.Shape.{Shape}
 use Rattle.part_geometry.specs.Cells.{cells}
 use Rattle.part_tables.specs.Bytes.{cell_bytes, part_bytes}
 use Rattle.pair_core.specs.Names.{Name, Fits, number, put_word, put}
-use Rattle.pair_core.specs.Core.{Core, Slot}
 use Rattle.pair_core.specs.Steps.{saw}
 use Rattle.pair_core.specs.Moves.{Move, LayPiece, IsAllowed, after}
 use Rattle.pair_core.specs.Sound.{Sound}
 use Rattle.pair_core.specs.State.{word_count, ListsWords}
-use Rattle.pair_core.specs.Facts.{StateFacts, piece_word, IsKept, BringsHome}
+use Rattle.pair_core.specs.Facts.{piece_word, IsKept, BringsHome}
 use Rattle.pair_core.specs.declared.view.Mark.{Mark}
-use Rattle.pair_core.specs.declared.view.Life.TheVariants.{Blank, Live}
-use Rattle.pair_core.proofs.Facts.{put_here, put_else, lists_put, number_lt, word_here, word_else, later_refl, later_trans, any_word}
+use Rattle.pair_core.proofs.Facts.{put_here, put_else, lists_put, number_lt, later_trans}
 use Rattle.slot_rows.proofs.Lists.{at_split}
 use Rattle.pair_rule.specs.Buf.{Buf}
 use Rattle.pair_rule.specs.Views as view
-use Rattle.pair_rule.specs.Rule.{At, Shown, slot_number, Stands, Given, Agrees, Tells, IsFirst, IsMarked, Rule}
+use Rattle.pair_rule.specs.Rule.{At, Shown, slot_number, Stands, Given, Agrees, IsMarked, Rule}
 use Rattle.pair_rule.specs.declared.view.View.{View}
 use Rattle.pair_rule.specs.declared.view.Standing.TheVariants.{Seated, Told, Closed}
 use Rattle.pair_rule.specs.declared.rule.Key.{Key}
@@ -82,7 +80,7 @@ module _ {T : Type 0} (may : T → ℕ → ℕ → ℕ → Type 0) (key : Key T)
       → length homes' ≡ length s.homes
       → ((e c : ℕ) → e < key.geometry.depth → c < cells key.geometry → Stands key.geometry c (get_elem? homes' (slot_number key.geometry e c)) (c'.slot e c))
       → ((e c : ℕ) (b : Buf) → e < key.geometry.depth → c < cells key.geometry → get_elem? homes' (slot_number key.geometry e c) ≡ some (some (Some b))
-        → IsKept key.geometry c' e c → 1 ≤ round_in (piece_word key.geometry c' e c) → b.bytes ≡ cell_bytes key.geometry (bytes' (round_in (piece_word key.geometry c' e c))) c)
+      → IsKept key.geometry c' e c → 1 ≤ round_in (piece_word key.geometry c' e c) → b.bytes ≡ cell_bytes key.geometry (bytes' (round_in (piece_word key.geometry c' e c))) c)
       → ((n : ℕ) (m : Mark (List ℕ)) → Contains (c'.marks n) m → IsMarked may key bytes' m)
       → ((m : Mark (List ℕ)) → Contains c'.takes m → m.with ≡ part_bytes key.geometry (bytes' m.round) m.partition)
       → Held record { words = set s.words (number key.geometry x) w; homes = homes'; views = set s.views id d' } c'
@@ -91,8 +89,7 @@ module _ {T : Type 0} (may : T → ℕ → ℕ → ℕ → Type 0) (key : Key T)
       let a = r.seats id d at live in
       let index : number g x < length s.words = subst (λ (z : ℕ). number g x < z) (sym r.size) (number_lt g x fits) in
       let set_words : ListsWords g (set s.words (number g x) w) (put_word x w r.core.word) =
-        lists_put g s.words x (number g x) w r.core.word w (λ z. z) r.words fits refl index refl in
-      (
+      lists_put g s.words x (number g x) w r.core.word w (λ z. z) r.words fits refl index refl in (
         record {
           core = c';
           seat = r.seat;
@@ -124,20 +121,20 @@ module _ {T : Type 0} (may : T → ℕ → ℕ → ℕ → Type 0) (key : Key T)
               (λ (t : (i ≢ id) × (get_elem? s.views i ≡ some e)). r.running i e t.1) (at_set s.views id i d' e is);
           first = λ is. let b = r.first is in let other : d.number ≢ 1 = λ e. one_not_alone r.alone r.markers r.watchers d.number is e a.given in
               let other' : 1 ≢ d.number = λ e. other (sym e) in record {
-              recv = sym (others.recv other) ∙ b.recv;
-              seen = λ y f. sym (others.seen 1 other' y) ∙ b.seen y f;
-              looks = λ y f. sym (others.looks 1 other' y) ∙ b.looks y f;
-              pending = sym (others.pending 1 other') ∙ b.pending;
-              marks = sym (others.marks 1 other') ∙ b.marks;
-              takes = sym (others.takes other) ∙ b.takes;
-            };
+                recv = sym (others.recv other) ∙ b.recv;
+                seen = λ y f. sym (others.seen 1 other' y) ∙ b.seen y f;
+                looks = λ y f. sym (others.looks 1 other' y) ∙ b.looks y f;
+                pending = sym (others.pending 1 other') ∙ b.pending;
+                marks = sym (others.marks 1 other') ∙ b.marks;
+                takes = sym (others.takes other) ∙ b.takes;
+              };
           unwatched = r.unwatched;
           new = λ n not one. others.life n ∙ r.new n not one;
           here = λ n alive born. let b = r.here n (sym (others.life n) ∙ alive) born in
               dite (ℕ_discrete (r.seat n) id)
               (λ e. let at' : get_elem? s.views id ≡ some b.0 = ap (get_elem? s.views) (sym e) ∙ b.1 in
-                let eq : d ≡ b.0 = some-injective d b.0 (sym at ∙ at') in
-                (d', ap (get_elem? (set s.views id d')) e ∙ set_here s.views id d' (there s.views id d at), live', same ∙ (ap (λ (z : View). z.number) eq ∙ b.3)))
+              let eq : d ≡ b.0 = some-injective d b.0 (sym at ∙ at') in
+              (d', ap (get_elem? (set s.views id d')) e ∙ set_here s.views id d' (there s.views id d at), live', same ∙ (ap (λ (z : View). z.number) eq ∙ b.3)))
               (λ other. (b.0, set_else s.views id (r.seat n) d' other ∙ b.1, b.2, b.3));
           marks = marked;
           takes = took;
@@ -210,17 +207,17 @@ module _ {T : Type 0} (may : T → ℕ → ℕ → ℕ → Type 0) (key : Key T)
   quiet s r id d d' m c' x w at live live' same fits allowed is other words others mine slots marks takes =
       let g : Shape = key.geometry in
       let before : (e c : ℕ) → e < g.depth → c < cells g → IsKept g c' e c → BringsHome g r.core m e c ⊎ (IsKept g r.core e c × (round_in (piece_word g c' e c) ≡ round_in (piece_word g r.core e c))) =
-        λ e c low inside. subst (λ (z : Shown). IsKept g z e c → BringsHome g r.core m e c ⊎ (IsKept g r.core e c × (round_in (piece_word g z e c) ≡ round_in (piece_word g r.core e c)))) is
-        (L.facts.kept_before r.core m e c r.sound allowed low inside) in
+      λ e c low inside. subst (λ (z : Shown). IsKept g z e c → BringsHome g r.core m e c ⊎ (IsKept g r.core e c × (round_in (piece_word g z e c) ≡ round_in (piece_word g r.core e c)))) is
+      (L.facts.kept_before r.core m e c r.sound allowed low inside) in
       steps may key s r id d d' x w s.homes c' r.bytes at live live' same fits
       (subst (Sound g) is (L.kept r.core m r.sound allowed)) words
       (λ y f. subst (λ (z : Shown). IsLater (r.core.word y) (z.word y)) is (L.grows r.core m y r.sound allowed f))
       others mine refl
       (λ e c low inside. subst (Stands g c (get_elem? s.homes (slot_number g e c))) (slots e c) (r.slots e c low inside))
       (λ e c b low inside home kept some. ⊎_elim
-        (λ (lay : BringsHome g r.core m e c). absurd (other lay.0 _ _ lay.1))
-        (λ (t : IsKept g r.core e c × (round_in (piece_word g c' e c) ≡ round_in (piece_word g r.core e c))).
-          r.kept e c b low inside home t.0 (subst (λ (z : ℕ). 1 ≤ z) t.1 some) ∙ ap (λ (k : ℕ). cell_bytes g (r.bytes k) c) (sym t.1))
-        (before e c low inside kept))
+      (λ (lay : BringsHome g r.core m e c). absurd (other lay.0 _ _ lay.1))
+      (λ (t : IsKept g r.core e c × (round_in (piece_word g c' e c) ≡ round_in (piece_word g r.core e c))).
+      r.kept e c b low inside home t.0 (subst (λ (z : ℕ). 1 ≤ z) t.1 some) ∙ ap (λ (k : ℕ). cell_bytes g (r.bytes k) c) (sym t.1))
+      (before e c low inside kept))
       (λ n k l. r.marks n k (subst (λ (z : List (Mark (List ℕ))). Contains z k) (marks n) l))
       (λ k l. r.takes k (subst (λ (z : List (Mark (List ℕ))). Contains z k) takes l))

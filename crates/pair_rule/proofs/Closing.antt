@@ -1,6 +1,6 @@
 -- A pair is closed: the receive side is joined into the send side when both are idle and no other seat is left, and the view that
 -- comes of it says what was marked and what was taken.
-use Rattle.std.proofs.Common.{◌≡◌, ◌≢◌, ◌⊎◌, inl, inr, ⊎_elim, ℕ, zero, suc, ◌+◌, ◌-◌, ◌*◌, ◌/◌, ◌%◌, ◌<◌, ◌≤◌, Bool, true, false, ◌==◌, List, [], ◌∷◌, ◌++◌, map, length, get_or, set, Contains, Option, Some, None, refl, sym, ap, ◌∙◌, subst, arith}
+use Rattle.std.proofs.Common.{◌≡◌, ◌≢◌, ◌⊎◌, inl, inr, ⊎_elim, ℕ, zero, suc, ◌+◌, ◌-◌, ◌*◌, ◌/◌, ◌%◌, ◌<◌, ◌≤◌, Bool, true, false, ◌==◌, List, [], ◌∷◌, ◌++◌, map, length, get_or, set, Contains, refl, sym, ap, ◌∙◌, subst, arith}
 use Rattle.std.specs.Prelude.{if◌then◌else◌}
 use Rattle.std.specs.List.{range_with_len}
 use Rattle.std.proofs.lemmas.Bool.{eqb-true}
@@ -8,15 +8,15 @@ use Rattle.std.proofs.lemmas.Nat.{div_below}
 use Rattle.std.proofs.Math.Nat.{mul-le-mul_right}
 use mathlib.Core.Option.{some, some-injective, some-ne-none}
 use lib.ListN.{get_elem?}
-use Rattle.atomic_table.specs.Table.{State, Joins, Splits}
+use Rattle.atomic_table.specs.Table.{Joins, Splits}
 use Rattle.atomic_table.proofs.Lists.{at_set, set_else}
 use Rattle.gate_word.specs.Words.{round_in}
 use Rattle.part_geometry.specs.Shape.{Shape, IsShape}
-use Rattle.part_tables.specs.Bytes.{bytes_between, byte_at, part_bytes}
-use Rattle.pair_core.specs.Names.{Name, Claim, Release, Fits, number, claim_words}
-use Rattle.pair_core.specs.Core.{Core, IsMarker, IsWatcher, is_mark, times}
+use Rattle.part_tables.specs.Bytes.{byte_at, part_bytes}
+use Rattle.pair_core.specs.Names.{Claim, Release, claim_words}
+use Rattle.pair_core.specs.Core.{IsMarker, IsWatcher, is_mark, times}
 use Rattle.pair_core.specs.Moves.{IsSendIdle, IsRecvIdle}
-use Rattle.pair_core.specs.Sound.{Sound, Counts, occurrences}
+use Rattle.pair_core.specs.Sound.{Counts, occurrences}
 use Rattle.pair_core.specs.State.{word_count}
 use Rattle.pair_core.specs.Facts.{StateFacts}
 use Rattle.pair_core.specs.declared.view.Mark.{Mark}
@@ -24,13 +24,13 @@ use Rattle.pair_core.specs.declared.view.SendSide.{SendSide}
 use Rattle.pair_core.specs.declared.view.RecvSide.{RecvSide}
 use Rattle.pair_core.specs.declared.view.Life.{Life}
 use Rattle.pair_core.specs.declared.view.Life.TheVariants.{Live}
-use Rattle.pair_rule.specs.Rule.{At, Shown, Given, Agrees, Rule, MayMark, bytes_of, IsWhole, AreCounted, Ended, Holds}
+use Rattle.pair_rule.specs.Rule.{At, Agrees, Rule, MayMark, bytes_of, IsWhole, AreCounted, Ended, Holds}
 use Rattle.pair_rule.specs.First.{spent, closed}
 use Rattle.pair_rule.specs.declared.view.View.{View}
 use Rattle.pair_rule.specs.declared.view.Standing.TheVariants.{Seated, Closed}
 use Rattle.pair_rule.specs.declared.rule.Key.{Key}
 use Rattle.pair_rule.proofs.Core.{CoreLaws}
-use Rattle.pair_rule.proofs.Marks.{in_cons, in_rest, in_first, times_in, both_true, none_if, cases}
+use Rattle.pair_rule.proofs.Marks.{in_rest, in_first, times_in, both_true, none_if, cases}
 use Rattle.pair_rule.proofs.SideSteps.{of_running}
 use Rattle.pair_rule.proofs.Splitting.{at_end}
 
@@ -46,7 +46,7 @@ part_bytes-same g v f h q inside same =
     let low : q * g.recv_bytes ≤ (q + 1) * g.recv_bytes = mul-le-mul_right g.recv_bytes (omega arith) in
     let all = v.same in let some' = v.send_bytes.0 in
     same_map (byte_at g f) (byte_at g h) ((q + 1) * g.recv_bytes - q * g.recv_bytes) (q * g.recv_bytes)
-      (λ x from to. let p : ℕ = x / g.send_bytes in ap (λ (z : List ℕ). get_or z (x % g.send_bytes) 0) (same p (div_below x g.send_bytes g.send_parts (omega arith) (omega arith))))
+    (λ x from to. let p : ℕ = x / g.send_bytes in ap (λ (z : List ℕ). get_or z (x % g.send_bytes) 0) (same p (div_below x g.send_bytes g.send_parts (omega arith) (omega arith))))
 
 abbrev either_bytes : Mark (List ℕ) → List ℕ → Bool → List ℕ
 either_bytes m rest b = if b then m.with else rest
@@ -57,9 +57,9 @@ pub bytes_in : (k p : ℕ) (ms : List (Mark (List ℕ))) → 1 ≤ times k p ms
 bytes_in k p [] h = absurd (omega arith)
 bytes_in k p (m ∷ ms) h = ⊎_elim
     (λ (e : is_mark k p m ≡ true). let both = both_true (m.round == k) (m.partition == p) e in
-      (m, in_first m ms, eqb-true m.round k both.0, eqb-true m.partition p both.1, ap (either_bytes m (bytes_of ms k p)) e))
+    (m, in_first m ms, eqb-true m.round k both.0, eqb-true m.partition p both.1, ap (either_bytes m (bytes_of ms k p)) e))
     (λ (e : is_mark k p m ≡ false). let z = none_if (is_mark k p m) e in let r = bytes_in k p ms (omega (arith, z)) in
-      (r.0, in_rest m r.0 ms r.1, r.2, r.3, ap (either_bytes m (bytes_of ms k p)) e ∙ r.4))
+    (r.0, in_rest m r.0 ms r.1, r.2, r.3, ap (either_bytes m (bytes_of ms k p)) e ∙ r.4))
     (cases (is_mark k p m))
 
 marks_bytes : (bytes : ℕ → ℕ → List ℕ) (k p : ℕ) (ms : List (Mark (List ℕ))) → 1 ≤ times k p ms → ((m : Mark (List ℕ)) → Contains ms m → m.with ≡ bytes m.round m.partition)
@@ -122,10 +122,10 @@ module _ {T : Type 0} (may : T → ℕ → ℕ → ℕ → Type 0) (key : Key T)
         let k = r.seats i f is alive in
         ⊎_elim (λ (z : f.number ≡ 0). inl (sym k.seat_is ∙ (ap r.seat (z ∙ sym zeroth) ∙ a.seat_is)))
         (λ (y : ((f.number ≡ 1) × (r.alone ≡ false)) ⊎ (IsMarker f.number × (f.number < 2 + 2 * r.markers)) ⊎ (IsWatcher f.number × (f.number < 3 + 2 * r.watchers))).
-          ⊎_elim (λ (z : (f.number ≡ 1) × (r.alone ≡ false)). inr (sym k.seat_is ∙ (ap r.seat (z.0 ∙ sym oneth) ∙ b.seat_is)))
-          (λ (x : (IsMarker f.number × (f.number < 2 + 2 * r.markers)) ⊎ (IsWatcher f.number × (f.number < 3 + 2 * r.watchers))).
-            ⊎_elim (λ (z : IsMarker f.number × (f.number < 2 + 2 * r.markers)). absurd (none_left IsMarker r.core.life r.core.send.markers f.number r.sound.lives.markers_out none' z.0 k.live))
-            (λ (z : IsWatcher f.number × (f.number < 3 + 2 * r.watchers)). absurd (none_left IsWatcher r.core.life r.core.recv.watchers f.number r.sound.lives.watchers_out nobody' z.0 k.live)) x) y)
+        ⊎_elim (λ (z : (f.number ≡ 1) × (r.alone ≡ false)). inr (sym k.seat_is ∙ (ap r.seat (z.0 ∙ sym oneth) ∙ b.seat_is)))
+        (λ (x : (IsMarker f.number × (f.number < 2 + 2 * r.markers)) ⊎ (IsWatcher f.number × (f.number < 3 + 2 * r.watchers))).
+        ⊎_elim (λ (z : IsMarker f.number × (f.number < 2 + 2 * r.markers)). absurd (none_left IsMarker r.core.life r.core.send.markers f.number r.sound.lives.markers_out none' z.0 k.live))
+        (λ (z : IsWatcher f.number × (f.number < 3 + 2 * r.watchers)). absurd (none_left IsWatcher r.core.life r.core.recv.watchers f.number r.sound.lives.watchers_out nobody' z.0 k.live)) x) y)
         k.given
 
     some_words : 1 ≤ claim_words G
@@ -152,11 +152,11 @@ module _ {T : Type 0} (may : T → ℕ → ℕ → ℕ → Type 0) (key : Key T)
           let of = r.takes t (subst (λ (z : List (Mark (List ℕ))). Contains z t) takes held) in
           let only = taken t.round t.partition (times_in t e.takes held) in
           of ∙ part_bytes-same G r.shape (r.bytes t.round) (bytes_of d.marks t.round) t.partition only.2 (λ p inside.
-            sym (ap (λ (z : List (Mark (List ℕ))). bytes_of z t.round p) marks ∙ marks_bytes r.bytes t.round p (r.core.marks 0)
-              (let low = only.0 in let high = only.1 in
-                let w = f.received_sent r.core r.sound rests' in let x : e.recv.round ≡ r.core.recv.round = ap (λ (z : RecvSide). z.round) recv in
-                let one = f.all_marked r.core t.round p r.sound none' idle' low (omega arith) inside in omega arith)
-              (λ m in'. (r.marks 0 m in').bytes_are)));
+          sym (ap (λ (z : List (Mark (List ℕ))). bytes_of z t.round p) marks ∙ marks_bytes r.bytes t.round p (r.core.marks 0)
+          (let low = only.0 in let high = only.1 in
+          let w = f.received_sent r.core r.sound rests' in let x : e.recv.round ≡ r.core.recv.round = ap (λ (z : RecvSide). z.round) recv in
+          let one = f.all_marked r.core t.round p r.sound none' idle' low (omega arith) inside in omega arith)
+          (λ m in'. (r.marks 0 m in').bytes_are)));
     } where
       f : StateFacts (List ℕ) G
       f = L.facts
@@ -169,22 +169,22 @@ module _ {T : Type 0} (may : T → ℕ → ℕ → ℕ → Type 0) (key : Key T)
       over = λ i f is alive. ⊎_elim
           (λ (u : spent ≡ f). let no : spent.standing ≡ Seated = ap (λ (z : View). z.standing) u ∙ alive in absurd (cc))
           (λ (y : ((i ≡ id) × (view ≡ f)) ⊎ ((i ≢ id) × (i ≢ other) × (get_elem? s.views i ≡ some f))). ⊎_elim
-            (λ (u : (i ≡ id) × (view ≡ f)). let no : view.standing ≡ Seated = ap (λ (z : View). z.standing) u.1 ∙ alive in absurd (cc))
-            (λ (u : (i ≢ id) × (i ≢ other) × (get_elem? s.views i ≡ some f)). ⊎_elim (λ z. u.0 z) (λ z. u.1 z) (alone i f u.2 alive)) y)
+          (λ (u : (i ≡ id) × (view ≡ f)). let no : view.standing ≡ Seated = ap (λ (z : View). z.standing) u.1 ∙ alive in absurd (cc))
+          (λ (u : (i ≢ id) × (i ≢ other) × (get_elem? s.views i ≡ some f)). ⊎_elim (λ z. u.0 z) (λ z. u.1 z) (alone i f u.2 alive)) y)
           (which i f is);
       size = r.size;
       shape = r.shape;
       whole = λ i f is shut. ⊎_elim
           (λ (u : spent ≡ f). let no : spent.standing ≡ Closed = ap (λ (z : View). z.standing) u ∙ shut in absurd (cc))
           (λ (y : ((i ≡ id) × (view ≡ f)) ⊎ ((i ≢ id) × (i ≢ other) × (get_elem? s.views i ≡ some f))). ⊎_elim
-            (λ (u : (i ≡ id) × (view ≡ f)). subst (IsWhole may key) u.1 whole)
-            (λ (u : (i ≢ id) × (i ≢ other) × (get_elem? s.views i ≡ some f)). absurd (r.running i f u.2 shut)) y)
+          (λ (u : (i ≡ id) × (view ≡ f)). subst (IsWhole may key) u.1 whole)
+          (λ (u : (i ≢ id) × (i ≢ other) × (get_elem? s.views i ≡ some f)). absurd (r.running i f u.2 shut)) y)
           (which i f is);
       counted = λ i f is shut. ⊎_elim
           (λ (u : spent ≡ f). let no : spent.standing ≡ Closed = ap (λ (z : View). z.standing) u ∙ shut in absurd (cc))
           (λ (y : ((i ≡ id) × (view ≡ f)) ⊎ ((i ≢ id) × (i ≢ other) × (get_elem? s.views i ≡ some f))). ⊎_elim
-            (λ (u : (i ≡ id) × (view ≡ f)). subst (AreCounted may key s.words) u.1 counted)
-            (λ (u : (i ≢ id) × (i ≢ other) × (get_elem? s.views i ≡ some f)). absurd (r.running i f u.2 shut)) y)
+          (λ (u : (i ≡ id) × (view ≡ f)). subst (AreCounted may key s.words) u.1 counted)
+          (λ (u : (i ≢ id) × (i ≢ other) × (get_elem? s.views i ≡ some f)). absurd (r.running i f u.2 shut)) y)
           (which i f is);
     } where
       which : (i : ℕ) (f : View) → get_elem? (set (set s.views id view) other spent) i ≡ some f
@@ -192,7 +192,7 @@ module _ {T : Type 0} (may : T → ℕ → ℕ → ℕ → Type 0) (key : Key T)
       which i f is = ⊎_elim
           (λ (u : (i ≡ other) × (spent ≡ f)). inl u.1)
           (λ (u : (i ≢ other) × (get_elem? (set s.views id view) i ≡ some f)). ⊎_elim (λ (v : (i ≡ id) × (view ≡ f)). inr (inl v))
-            (λ (v : (i ≢ id) × (get_elem? s.views i ≡ some f)). inr (inr (v.0, u.0, v.1))) (at_set s.views id i view f u.1))
+          (λ (v : (i ≢ id) × (get_elem? s.views i ≡ some f)). inr (inr (v.0, u.0, v.1))) (at_set s.views id i view f u.1))
           (at_set (set s.views id view) other i spent f is)
 
   pub recv_joins : CoreLaws G → (id : ℕ) (d : View) (other : ℕ) (e : View) → d.standing ≡ Seated → d.number ≡ 0 → e.standing ≡ Seated → e.number ≡ 1
@@ -214,8 +214,8 @@ module _ {T : Type 0} (may : T → ℕ → ℕ → ℕ → Type 0) (key : Key T)
     from : (i : ℕ) (f : View) → get_elem? (set s.views id d ++ d ∷ []) i ≡ some f → (j : ℕ) × (get_elem? s.views j ≡ some f)
     from i f is = ⊎_elim
         (λ (u : get_elem? (set s.views id d) i ≡ some f). ⊎_elim
-          (λ (v : (i ≡ id) × (d ≡ f)). (id, at ∙ ap (λ (z : View). some z) v.1))
-          (λ (v : (i ≢ id) × (get_elem? s.views i ≡ some f)). (i, v.1)) (at_set s.views id i d f u))
+        (λ (v : (i ≡ id) × (d ≡ f)). (id, at ∙ ap (λ (z : View). some z) v.1))
+        (λ (v : (i ≢ id) × (get_elem? s.views i ≡ some f)). (i, v.1)) (at_set s.views id i d f u))
         (λ (u : (i ≡ length (set s.views id d)) × (d ≡ f)). (id, at ∙ ap (λ (z : View). some z) u.1))
         (at_end (set s.views id d) d f i is)
 

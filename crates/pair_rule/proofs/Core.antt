@@ -1,5 +1,5 @@
 -- What the core proves of its states, as this crate uses it.
-use Rattle.std.proofs.Common.{◌≡◌, ℕ, ◌<◌, List}
+use Rattle.std.proofs.Common.{ℕ, ◌<◌, List}
 use Rattle.gate_word.specs.Order.{IsLater}
 use Rattle.part_geometry.specs.Shape.{Shape, IsShape}
 use Rattle.part_geometry.specs.Pieces.{pieces, Touches}

@@ -1,6 +1,6 @@
 -- The lanes of the receive seat agree with what it knows after each of its steps. A step changes one word that the seat has seen:
 -- of a lane's bits, those of other words are as before, and in the word itself the bits are all 0, or one is set.
-use Rattle.std.proofs.Common.{◌≡◌, ◌≢◌, ◌⊎◌, inl, inr, ⊎_elim, ℕ, zero, suc, ◌+◌, ◌-◌, ◌*◌, ◌%◌, ◌/◌, ◌^◌, ◌<◌, ◌≤◌, Bool, true, false, List, [], ◌∷◌, length, take, drop, ◌++◌, take_at, bit_or, refl, sym, ap, ◌∙◌, subst, arith, length-set, get_or-set_same, get_or-set_other, div-add-mod'}
+use Rattle.std.proofs.Common.{◌≡◌, ◌≢◌, ◌⊎◌, inl, inr, ⊎_elim, ℕ, zero, suc, ◌+◌, ◌-◌, ◌*◌, ◌%◌, ◌/◌, ◌^◌, ◌<◌, ◌≤◌, Bool, true, false, List, [], ◌∷◌, length, take, drop, ◌++◌, take_at, bit_or, refl, sym, ap, ◌∙◌, subst, arith, length-set, get_or-set_same, div-add-mod'}
 use mathlib.Core.Logic.{dite}
 use mathlib.Core.Option.{some, some-injective, some-ne-none}
 use native.Mathlib.Decide.{ℕ_discrete}
@@ -14,7 +14,7 @@ use Rattle.pair_core.specs.Names.{Name, Release, Take, Return, Fits, number, tak
 use Rattle.pair_core.specs.Reading.{part_bit}
 use Rattle.pair_core.specs.State.{word_count}
 use Rattle.pair_core.specs.Moves.{StoreReturn, StoreTake, StoreRelease, TakePart, ReturnPart, IsRecvActive, IsRecvIdle}
-use Rattle.pair_core.proofs.Facts.{number_lt, number_one, bit_or_here, bit_or_else, empty_bit}
+use Rattle.pair_core.proofs.Facts.{number_lt, bit_or_here, bit_or_else, empty_bit}
 use Rattle.slot_rows.specs.declared.lane.Lane.{Lane}
 use Rattle.slot_rows.specs.Lanes.{wide, place, flagged, HasFlags}
 use Rattle.slot_rows.proofs.Lists.{at_split}
@@ -25,13 +25,11 @@ use Rattle.pair_rule.specs.Rule.{slot_number}
 use Rattle.pair_rule.specs.Steps.{MayMake}
 use Rattle.pair_rule.specs.Parts.{untaken, fresh_lanes, first_slot, cell_spot}
 use Rattle.pair_rule.specs.declared.view.View.{View}
+use Rattle.pair_rule.proofs.LanesStay.{seen_else}
 
 -- the word of a name after the seat saw w at the name x
 pub seen_here : (d : View) (x : Name) (w : ℕ) → Fits d.geometry x → length d.seen ≡ word_count d.geometry → seen (saw x w d) x ≡ w
 seen_here d x w fits size = get_or-set_same d.seen (number d.geometry x) w 0 (subst (λ (z : ℕ). number d.geometry x < z) (sym size) (number_lt d.geometry x fits))
-
-pub seen_else : (d : View) (x y : Name) (w : ℕ) → Fits d.geometry x → Fits d.geometry y → y ≢ x → seen (saw x w d) y ≡ seen d y
-seen_else d x y w fits there other = get_or-set_other d.seen (number d.geometry x) (number d.geometry y) w 0 (λ e. other (number_one d.geometry y x there fits e))
 
 take_one : (a b : ℕ) → Take a ≡ Take b → a ≡ b
 take_one a b e = ap index e
@@ -83,9 +81,11 @@ lane_of_word q t e = (omega arith, omega arith)
 pub part_there : (d : View) (n q : ℕ) (ls : List Lane) (l : Lane) → AreLanes d n ls → get_elem? ls q ≡ some l → q < d.geometry.recv_parts
 part_there d n q ls l a at = let h = (at_split ls q l at).0 in let p = a.parts in omega arith
 
+-- the word of a lane's partition is one of the pair's
 pub word_there : (d : View) (n q : ℕ) (ls : List Lane) (l : Lane) → AreLanes d n ls → get_elem? ls q ≡ some l → q / 32 < take_words d.geometry
 word_there d n q ls l a at = word_inside q d.geometry.recv_parts (part_there d n q ls l a at)
 
+-- a pair has a take word
 pub some_word : (g : Shape) → IsShape g → 1 ≤ take_words g
 some_word g v = let h = v.recv_parts.0 in omega arith
 
@@ -97,6 +97,7 @@ return_inactive d k t n ls v h a act = ⊎_elim
     let some = some_word d.geometry v in let e = act.0 in let o = a.order (omega arith) in let low = h.1 in let is = z.1 in absurd (omega arith))
     h.3
 
+-- after a return word is stored
 pub return_lanes : (d : View) (k t n : ℕ) (ls : List Lane) → IsShape d.geometry → MayMake d (StoreReturn k t) → AreLanes d n ls → AreLanes (stored_return k t d) n ls
 return_lanes d k t n ls v h a =
     let g : Shape = d.geometry in let some = some_word g v in let not = return_inactive d k t n ls v h a in
@@ -159,6 +160,7 @@ none_wide (l ∷ ls) h = let a = home_width l (h 0 l refl) in let b = none_wide 
 take_inactive : (d : View) (k t : ℕ) → MayMake d (StoreTake k t) → ¬ IsRecvActive d.geometry d.recv
 take_inactive d k t h act = let e = act.0 in let low = h.1 in let is = h.4 in absurd (omega arith)
 
+-- after a take word is stored
 pub take_lanes : (d : View) (k t n : ℕ) (ls : List Lane) → MayMake d (StoreTake k t) → AreLanes d n ls → AreLanes (stored_take t d) n (fresh_lanes t ls)
 take_lanes d k t n ls h a =
     let g : Shape = d.geometry in let x : Name = Take t in let w : ℕ = empty d.recv.round in
@@ -211,6 +213,7 @@ take_lanes d k t n ls h a =
           (untaken_at (32 * t) 32 ls q l at);
     }
 
+-- after the release
 pub release_lanes : (d : View) (k n : ℕ) (ls : List Lane) → MayMake d (StoreRelease k) → AreLanes d n ls → AreLanes (released d) n ls
 release_lanes d k n ls h a =
     let g : Shape = d.geometry in let w : ℕ = empty d.recv.round in let full = h.2.0 in
@@ -241,6 +244,7 @@ may_take d q n ls l h a at =
     let e = a.each q l at in let o = e.out h.2 in let t = e.taken in let b = h.3 in
     record { lane = l; at = at; taken = flag_zero l.taken (omega arith); out = flag_zero l.out (omega arith) }
 
+-- a partition that may be given back has its lane out
 pub may_return : (d : View) (q n : ℕ) (ls : List Lane) (l : Lane) → MayMake d (ReturnPart q) → AreLanes d n ls → get_elem? ls q ≡ some l → HasFlags true true q ls
 may_return d q n ls l h a at =
     let e = a.each q l at in let o = e.out h.2 in let t = e.taken in let b = h.3 in let c = h.4 in
@@ -269,6 +273,7 @@ module _ (d : View) (q n v : ℕ) (ls : List Lane) (a : AreLanes d n ls) where
   abbrev w : ℕ
   w = bit_or v (2 ^ (q % 32))
 
+  -- after a take
   pub taken_lanes : (b : List ℕ) → MayMake d (TakePart q []) → v ≡ seen d (Take (q / 32)) → HasFlags false false q ls → AreLanes (taken q b w d) (n + cells_of g q) (flagged true true q ls)
   taken_lanes b h is f =
       let x : Name = Take (q / 32) in let fits : q / 32 < take_words g = word_inside q g.recv_parts h.1 in let full = h.2.0 in
@@ -311,6 +316,7 @@ module _ (d : View) (q n v : ℕ) (ls : List Lane) (a : AreLanes d n ls) where
             (flagged_at true true q ls p l at);
       }
 
+  -- after a return
   pub returned_lanes : (m : ℕ) → MayMake d (ReturnPart q) → v ≡ seen d (Return (q / 32)) → HasFlags true true q ls → m + cells_of g q ≡ n → AreLanes (given_back q w d) m (flagged true false q ls)
   returned_lanes m h is f left =
       let x : Name = Return (q / 32) in let fits : q / 32 < take_words g = word_inside q g.recv_parts h.1 in let full = h.2.0 in
@@ -352,6 +358,7 @@ module _ (d : View) (q n v : ℕ) (ls : List Lane) (a : AreLanes d n ls) where
 
 -- ---- lanes by steps of a loop
 
+-- no lane from k on is changed
 pub untaken_none : (k : ℕ) (ls : List Lane) → untaken k 0 ls ≡ ls
 untaken_none k [] = refl
 untaken_none zero (x ∷ xs) = refl
@@ -375,6 +382,7 @@ untaken_all zero (suc n) zero (x ∷ xs) few less = absurd (omega arith)
 untaken_all zero (suc n) (suc m) (x ∷ xs) few less = ap (λ (z : List Lane). record x { taken = false; out = false } ∷ z) (untaken_all zero n m xs (omega arith) (omega arith))
 untaken_all (suc k) n m (x ∷ xs) few less = ap (λ (z : List Lane). x ∷ z) (untaken_all k n m xs (omega arith) less)
 
+-- a partition has a lane
 pub lane_there : (ls : List Lane) (q : ℕ) → q < length ls → (l : Lane) × (get_elem? ls q ≡ some l)
 lane_there [] q h = absurd (omega arith)
 lane_there (x ∷ xs) zero h = (x, refl)

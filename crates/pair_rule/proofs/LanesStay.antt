@@ -1,8 +1,7 @@
 -- What the receive seat has seen of its own words is as it was after a look, after it is told something, and after it has made a watcher
 -- or taken one back; and so its lanes are.
-use Rattle.std.proofs.Common.{◌≡◌, ◌≢◌, ℕ, ◌+◌, ◌-◌, ◌*◌, ◌/◌, ◌%◌, ◌<◌, Bool, true, false, ◌==◌, ◌&&◌, nat_lt, List, [], ◌∷◌, suc, map, length, get_or, refl, sym, ap, ◌∙◌, subst, arith, length-set}
+use Rattle.std.proofs.Common.{◌≡◌, ◌≢◌, ℕ, ◌+◌, ◌-◌, ◌*◌, ◌/◌, ◌%◌, ◌<◌, Bool, true, false, ◌&&◌, List, [], ◌∷◌, suc, length, get_or, refl, sym, ap, ◌∙◌, subst, arith, length-set}
 use Rattle.std.specs.Prelude.{if◌then◌else◌}
-use Rattle.std.specs.List.{range_with_len}
 use Rattle.std.proofs.lemmas.Bool.{eq-eqb, lt-ltb}
 use Rattle.std.proofs.lemmas.List.{get_or-set_other}
 use Rattle.std.proofs.lemmas.List.FromFn.{length-map-range_with_len, get_or-map-range_with_len}
@@ -21,16 +20,17 @@ use Rattle.pair_rule.specs.First.{with_watcher, with_watcher_back}
 use Rattle.pair_rule.specs.Views.{seen, saw, told, told_word, is_own}
 use Rattle.pair_rule.specs.Seats.{AreLanes, flag}
 use Rattle.pair_rule.specs.declared.view.View.{View}
-use Rattle.pair_core.specs.declared.view.RecvSide.{RecvSide}
 use Rattle.pair_rule.proofs.Allowed.{word_there}
 
 -- the word x isn't the receive seat's own
 abbrev pub IsOther : Name → Type 0
 IsOther x = (t : ℕ) → (Take t ≢ x) × (Return t ≢ x)
 
+-- no claim word is the receive seat's own
 pub other_claim : (c : ℕ) → IsOther (Claim c)
 other_claim c t = ((λ e. absurd (cc)), (λ e. absurd (cc)))
 
+-- and no piece's word
 pub other_piece : (d i : ℕ) → IsOther (Piece d i)
 other_piece d i t = ((λ e. absurd (cc)), (λ e. absurd (cc)))
 
@@ -69,11 +69,13 @@ pub seen_else : (d : View) (x y : Name) (w : ℕ) → Fits d.geometry x → Fits
 seen_else d x y w fits there other =
     get_or-set_other d.seen (number d.geometry x) (number d.geometry y) w 0 (λ e. other (number_one d.geometry y x there fits e))
 
+-- after a look
 pub lanes_stay : (d : View) (x : Name) (w n : ℕ) (ls : List Lane) → Fits d.geometry x → IsOther x → AreLanes d n ls → AreLanes (saw x w d) n ls
 lanes_stay d x w n ls fits other lanes =
     lanes_seeing d (saw x w d).seen (saw x w d).looks d.made d.recv.watchers n ls (length-set d.seen (number d.geometry x) w)
-      (λ t there. (seen_else d x (Take t) w fits there (other t).0, seen_else d x (Return t) w fits there (other t).1)) lanes
+    (λ t there. (seen_else d x (Take t) w fits there (other t).0, seen_else d x (Return t) w fits there (other t).1)) lanes
 
+-- after a watcher was made
 pub lanes_split : (d : View) (n : ℕ) (ls : List Lane) → AreLanes d n ls → AreLanes (with_watcher d) n ls
 lanes_split d n ls lanes = lanes_seeing d d.seen d.looks (d.made + 1) (d.recv.watchers + 1) n ls refl (λ t there. (refl, refl)) lanes
 
@@ -87,7 +89,7 @@ own_seen : (d e : View) (x : Name) → d.number ≡ 1 → Fits d.geometry x → 
     → get_or (told d e).seen (number d.geometry x) 0 ≡ seen d x
 own_seen d e x oneth fits low high =
     get_or-map-range_with_len (told_word d e) 0 (word_count d.geometry) (number d.geometry x) (number d.geometry x) 0 (number_lt d.geometry x fits)
-      (let z : 0 + number d.geometry x ≡ number d.geometry x = omega arith in z)
+    (let z : 0 + number d.geometry x ≡ number d.geometry x = omega arith in z)
     ∙ own_word d e (number d.geometry x) oneth low high
 
 told_same : (d e : View) → d.number ≡ 1 → (t : ℕ) → t < take_words d.geometry
@@ -98,9 +100,11 @@ told_same d e oneth t there =
 told_size : (d e : View) (n : ℕ) (ls : List Lane) → AreLanes d n ls → length (told d e).seen ≡ length d.seen
 told_size d e n ls lanes = length-map-range_with_len (told_word d e) 0 (word_count d.geometry) ∙ sym lanes.words
 
+-- after it was told something
 pub lanes_told : (d e : View) (n : ℕ) (ls : List Lane) → d.number ≡ 1 → AreLanes d n ls → AreLanes (told d e) n ls
 lanes_told d e n ls oneth lanes = lanes_seeing d (told d e).seen d.looks d.made d.recv.watchers n ls (told_size d e n ls lanes) (told_same d e oneth) lanes
 
+-- after a watcher was taken back
 pub lanes_join : (d e : View) (n : ℕ) (ls : List Lane) → d.number ≡ 1 → AreLanes d n ls → AreLanes (with_watcher_back d e) n ls
 lanes_join d e n ls oneth lanes = lanes_seeing d (told d e).seen d.looks d.made (d.recv.watchers - 1) n ls (told_size d e n ls lanes) (told_same d e oneth) lanes
 

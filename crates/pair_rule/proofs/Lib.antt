@@ -24,3 +24,4 @@ pub mod LanesStay
 pub mod MarkSeats
 pub mod Starting
 pub mod SendViews
+pub mod LawFacts

@@ -33,7 +33,7 @@ use Rattle.pair_rule.specs.declared.view.View.{View}
 use Rattle.pair_rule.specs.declared.view.Standing.TheVariants.{Seated}
 use Rattle.pair_rule.specs.declared.rule.Key.{Key}
 use Rattle.pair_rule.proofs.Core.{CoreLaws}
-use Rattle.pair_rule.proofs.Allowed.{word_there, place_there}
+use Rattle.pair_rule.proofs.Allowed.{word_there, place_there, seen_same, unspent}
 use Rattle.pair_rule.proofs.SideSteps.{of_running, load_claim_leads}
 use Rattle.pair_rule.proofs.Claiming.{claim_leads}
 use Rattle.pair_rule.proofs.Laying.{lay_leads}
@@ -113,13 +113,14 @@ module _ {T : Type 0} (may : T → ℕ → ℕ → ℕ → Type 0) (key : Key T)
         inl rule,
         λ z e.
             subst (λ (q : Pending). ((w, carried_after held (gives_row m)) ≡ (view.laid i q (bit_or v (2 ^ (p - first_part d.geometry i))) d, drop (shared_count d.geometry p i) held))
-            × (round_in v ≡ q.round) × (laid d.geometry v i p ≡ 0)) (pend_one x z (sym f.pends ∙ e))
-            (after, told.0, told.1),
+            × (round_in v ≡ q.round) × (laid d.geometry v i p ≡ 0) × IsLater (view.seen d (Piece (q.round % d.geometry.depth) i)) v) (pend_one x z (sym f.pends ∙ e))
+            (after, told.0, told.1, told.2),
       )
     where
-      -- the word found is of the claim's round, and lacks the partition
+      -- the word found is of the claim's round, lacks the partition, and is the one that was seen, or later
       tells : (s : At) (r : Rule may key s) (id : ℕ) (d : View) → get_elem? s.views id ≡ some d → d.standing ≡ Seated → (k p i : ℕ) (x : Pending) → d.pending ≡ Some x → x.round ≡ k → d.geometry ≡ G → MayLay d.geometry x p i
           → (round_in (get_or s.words (number G (Piece (k % G.depth) i)) 0) ≡ x.round) × (laid d.geometry (get_or s.words (number G (Piece (k % G.depth) i)) 0) i p ≡ 0)
+          × IsLater (view.seen d (Piece (x.round % d.geometry.depth) i)) (get_or s.words (number G (Piece (k % G.depth) i)) 0)
       tells s r id d at live k p i x pends round same may_lay =
           let c : Shown = r.core in let a' = r.seats id d at live in
           let lay : MayLay G x p i = subst (λ (z : Shape). MayLay z x p i) same may_lay in
@@ -134,4 +135,12 @@ module _ {T : Type 0} (may : T → ℕ → ℕ → ℕ → Type 0) (key : Key T)
           let missing : laid G (c.word (Piece (c.send.round % G.depth) i)) i x.partition ≡ 0 =
           no_bit (has x.laid i) (laid G (c.word (Piece (c.send.round % G.depth) i)) i x.partition) lay.missing
           (bit_lt (c.word (Piece (c.send.round % G.depth) i)) (x.partition - first_part G i)) ((is.laid i piece touch).1) in
-          (ap round_in word ∙ (r.sound.pieces.current i (omega arith) ∙ sym is.round), (λ q. laid (same q) (word q) i (sym lay.partition q)) ∙ missing)
+          let y : Name = Piece (k % G.depth) i in
+          let seen = seen_same G r.shape c r.alone r.markers r.watchers r.seat id d a' y fits in
+          let later : IsLater (view.seen d y) (get_or s.words (number G y) 0) =
+          subst (λ (z : ℕ × ℕ). IsLater z.0 z.1) (λ q. (sym seen q, sym (r.words y fits) q))
+          (r.sound.seen.present d.number y (unspent G r.shape c r.alone r.markers r.watchers r.seat id d a' d.number refl) fits) in (
+            ap round_in word ∙ (r.sound.pieces.current i (omega arith) ∙ sym is.round),
+            (λ q. laid (same q) (word q) i (sym lay.partition q)) ∙ missing,
+            subst (λ (z : ℕ × Shape). IsLater (view.seen d (Piece (z.0 % z.1.depth) i)) (get_or s.words (number G y) 0)) (λ q. (sym round q, sym same q)) later,
+          )

@@ -1,11 +1,12 @@
 -- Marks in a list: that one stands in it, and how often its round and partition do.
-use Rattle.std.proofs.Common.{◌≡◌, ◌≢◌, ◌⊎◌, inl, inr, ⊎_elim, ℕ, zero, suc, ◌+◌, ◌<◌, ◌≤◌, Bool, true, false, ◌==◌, ◌&&◌, List, [], ◌∷◌, ◌++◌, length, Contains, refl, sym, ap, ◌∙◌, subst, arith}
+use Rattle.std.proofs.Common.{◌≡◌, ◌⊎◌, inl, inr, ⊎_elim, ℕ, zero, suc, ◌≤◌, Bool, true, false, ◌==◌, ◌&&◌, List, [], ◌∷◌, ◌++◌, Contains, refl, ap, ◌∙◌, arith}
 use Rattle.std.specs.Prelude.{if◌then◌else◌}
-use Rattle.std.proofs.lemmas.Bool.{cases_eq, eq-eqb, eqb-true}
+use Rattle.std.proofs.lemmas.Bool.{eq-eqb, eqb-true}
 use Rattle.pair_core.specs.Core.{is_mark, times}
 use Rattle.pair_core.specs.declared.view.Mark.{Mark}
 
 module _ {X : Type 0} where
+  -- what stands in a list is its first element or stands in the rest
   pub in_cons : (x y : X) (xs : List X) → Contains (x ∷ xs) y → (x ≡ y) ⊎ Contains xs y
   in_cons x y xs (zero, low, at) = inl at
   in_cons x y xs (suc k, low, at) = inr (k, omega arith, at)
@@ -44,6 +45,7 @@ module _ {A : Type 0} where
   is_itself : (m : Mark A) → is_mark m.round m.partition m ≡ true
   is_itself m = (λ i. eq-eqb m.round m.round refl i && eq-eqb m.partition m.partition refl i)
 
+  -- a mark in a list counts
   pub times_in : (m : Mark A) (ms : List (Mark A)) → Contains ms m → 1 ≤ times m.round m.partition ms
   times_in m [] h = absurd (in_none m h)
   times_in m (x ∷ xs) h = ⊎_elim
@@ -57,5 +59,5 @@ module _ {A : Type 0} where
   in_times k p (x ∷ xs) h = ⊎_elim
       (λ (e : is_mark k p x ≡ true). let both = both_true (x.round == k) (x.partition == p) e in (x, in_first x xs, eqb-true x.round k both.0, eqb-true x.partition p both.1))
       (λ (e : is_mark k p x ≡ false). let none = none_if (is_mark k p x) e in
-        let r = in_times k p xs (omega (arith, none)) in (r.0, in_rest x r.0 xs r.1, r.2, r.3))
+      let r = in_times k p xs (omega (arith, none)) in (r.0, in_rest x r.0 xs r.1, r.2, r.3))
       (cases (is_mark k p x))

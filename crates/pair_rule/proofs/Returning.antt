@@ -1,6 +1,6 @@
 -- A return: the buffers of a receive partition that was taken come home, with the receiver's round. Nothing is said of their
 -- bytes from then on.
-use Rattle.std.proofs.Common.{◌≡◌, ◌≢◌, ◌⊎◌, inl, inr, ⊎_elim, ℕ, suc, ◌+◌, ◌-◌, ◌*◌, ◌%◌, ◌/◌, ◌^◌, ◌<◌, ◌≤◌, Bool, true, false, ◌==◌, List, [], ◌∷◌, ◌++◌, length, map, get_or, set, Contains, Option, Some, None, refl, sym, ap, ◌∙◌, subst, arith, bit_or}
+use Rattle.std.proofs.Common.{◌≡◌, ◌⊎◌, inl, inr, ⊎_elim, ℕ, ◌+◌, ◌-◌, ◌*◌, ◌%◌, ◌/◌, ◌^◌, ◌<◌, ◌≤◌, Bool, ◌==◌, List, length, map, get_or, set, Option, Some, refl, sym, ap, ◌∙◌, subst, arith, bit_or}
 use Rattle.std.proofs.lemmas.Bool.{eq-eqb, eqb-true}
 use Rattle.std.proofs.lemmas.List.{length-map}
 use Rattle.std.proofs.Math.Nat.{mul-le-mul_right}
@@ -8,17 +8,15 @@ use mathlib.Core.Option.{some, none}
 use mathlib.Core.Option as maybe
 use lib.ListN.{get_elem?}
 use Rattle.gate_word.specs.Words.{round_in}
-use Rattle.gate_word.specs.Order.{IsLater}
-use Rattle.part_geometry.specs.Shape.{Shape, IsShape}
+use Rattle.part_geometry.specs.Shape.{Shape}
 use Rattle.part_geometry.specs.Cells.{cells, recv_of}
 use Rattle.part_tables.specs.Parts.{first_received}
 use Rattle.part_tables.specs.Bytes.{cell_bytes}
 use Rattle.part_tables.proofs.Facts.{in_received, first_received-le, first_received-mono}
-use Rattle.pair_core.specs.Names.{Name, Return, Fits, number, put_word}
-use Rattle.pair_core.specs.Core.{Core, Slot, Home, Out}
-use Rattle.pair_core.specs.Steps.{wrote, saw, returns_part, put_slots}
+use Rattle.pair_core.specs.Names.{Name, Return, Fits, number}
+use Rattle.pair_core.specs.Core.{Slot, Home}
+use Rattle.pair_core.specs.Steps.{saw, returns_part}
 use Rattle.pair_core.specs.Moves.{Move, ReturnPart, LayPiece, IsAllowed, after}
-use Rattle.pair_core.specs.Sound.{Sound}
 use Rattle.pair_core.specs.Facts.{piece_word, IsKept, BringsHome}
 use Rattle.pair_core.specs.declared.view.RecvSide.{RecvSide}
 use Rattle.slot_rows.specs.Lists.{Every}
@@ -143,54 +141,61 @@ module _ {T : Type 0} (may : T → ℕ → ℕ → ℕ → Type 0) (key : Key T)
     stands : (e j : ℕ) → e < G.depth → j < cells G → Stands G j (get_elem? homes' (slot_number G e j)) (c'.slot e j)
     stands e j deep within = ⊎_elim
         (λ (among' : IsAmong place first count e j). let y = brought e j among' in let fits = y.2 j (ap (λ (z : ℕ). z * cells G + j) among'.0) in
-          subst (Stands G j (get_elem? homes' (slot_number G e j)))
-            (sym (slots.put_here c.slot place these (Home k) e j among'.0 (eq-eqb (recv_of G j) q (of_part j within among'.1 among'.2))))
-            (y.0, y.1, fits.0, fits.1))
+        subst (Stands G j (get_elem? homes' (slot_number G e j)))
+        (sym (slots.put_here c.slot place these (Home k) e j among'.0 (eq-eqb (recv_of G j) q (of_part j within among'.1 among'.2))))
+        (y.0, y.1, fits.0, fits.1))
         (λ (not : ¬ IsAmong place first count e j).
-          subst (λ (z : maybe.Option (maybe.Option (Option Buf)) × Slot). Stands G j z.0 z.1)
-            (λ p. (sym (stocked_else s.homes (slot_number G place first) zs (slot_number G e j) (apart e j within not)) p,
-              sym (slots.put_else c.slot place these (Home k) e j (λ both. let h = in_part j within (eqb-true (recv_of G j) q both.1) in not (both.0, h.0, h.1))) p))
-            (r.slots e j deep within))
+        subst (λ (z : maybe.Option (maybe.Option (Option Buf)) × Slot). Stands G j z.0 z.1)
+        (λ p. (
+          sym (stocked_else s.homes (slot_number G place first) zs (slot_number G e j) (apart e j within not)) p,
+          sym (slots.put_else c.slot place these (Home k) e j (λ both. let h = in_part j within (eqb-true (recv_of G j) q both.1) in not (both.0, h.0, h.1))) p,
+        ))
+        (r.slots e j deep within))
         (among place first count e j)
 
     kept : (e j : ℕ) (y : Buf) → e < G.depth → j < cells G → get_elem? homes' (slot_number G e j) ≡ some (some (Some y))
         → IsKept G c' e j → 1 ≤ round_in (piece_word G c' e j) → y.bytes ≡ cell_bytes G (r.bytes (round_in (piece_word G c' e j))) j
     kept e j y deep within home tie positive = ⊎_elim
         (λ (among' : IsAmong place first count e j).
-          let tie' : IsKept G c' place j = subst (λ (z : ℕ). IsKept G c' z j) among'.0 tie in
-          absurd (L.facts.return_unkept c q j r.sound allowed within (of_part j within among'.1 among'.2) tie'))
+        let tie' : IsKept G c' place j = subst (λ (z : ℕ). IsKept G c' z j) among'.0 tie in
+        absurd (L.facts.return_unkept c q j r.sound allowed within (of_part j within among'.1 among'.2) tie'))
         (λ (not : ¬ IsAmong place first count e j).
-          let here = sym (stocked_else s.homes (slot_number G place first) zs (slot_number G e j) (apart e j within not)) ∙ home in
-          ⊎_elim
-          (λ (lay : BringsHome G c (ReturnPart q) e j). absurd (no_lay lay.0 _ _ lay.1))
-          (λ (t : IsKept G c e j × (round_in (piece_word G c' e j) ≡ round_in (piece_word G c e j))).
-            r.kept e j y deep within here t.0 (subst (λ (u : ℕ). 1 ≤ u) t.1 positive) ∙ ap (λ (u : ℕ). cell_bytes G (r.bytes u) j) (sym t.1))
-          (L.facts.kept_before c (ReturnPart q) e j r.sound allowed deep within tie))
+        let here = sym (stocked_else s.homes (slot_number G place first) zs (slot_number G e j) (apart e j within not)) ∙ home in
+        ⊎_elim
+        (λ (lay : BringsHome G c (ReturnPart q) e j). absurd (no_lay lay.0 _ _ lay.1))
+        (λ (t : IsKept G c e j × (round_in (piece_word G c' e j) ≡ round_in (piece_word G c e j))).
+        r.kept e j y deep within here t.0 (subst (λ (u : ℕ). 1 ≤ u) t.1 positive) ∙ ap (λ (u : ℕ). cell_bytes G (r.bytes u) j) (sym t.1))
+        (L.facts.kept_before c (ReturnPart q) e j r.sound allowed deep within tie))
         (among place first count e j)
       where
         no_lay : (n p i : ℕ) → ◌≡◌ {A = Move (List ℕ)} (ReturnPart q) (LayPiece n p i) → ⊥
         no_lay n p i e = cc
 
     pub returns_home : (id : ℕ) (d : View) → get_elem? s.views id ≡ some d → d.standing ≡ Seated → d.number ≡ 1
-        → Held may key record { words = set s.words (number G (Return (q / 32))) (bit_or (c.word (Return (q / 32))) (2 ^ (q % 32))); homes = homes';
-          views = set s.views id (view.given_back q (bit_or (c.word (Return (q / 32))) (2 ^ (q % 32))) d) } c'
+        → Held may key record {
+          words = set s.words (number G (Return (q / 32))) (bit_or (c.word (Return (q / 32))) (2 ^ (q % 32)));
+          homes = homes';
+          views = set s.views id (view.given_back q (bit_or (c.word (Return (q / 32))) (2 ^ (q % 32))) d);
+        } c'
     returns_home id d at live who =
         let x : Name = Return (q / 32) in let w : ℕ = bit_or (c.word x) (2 ^ (q % 32)) in
         let fits : Fits G x = word_there q G.recv_parts allowed.0 in
         let a = r.seats id d at live in
         steps may key s r id d (view.given_back q w d) x w homes' c' r.bytes at live live refl fits
-          (L.kept c (ReturnPart q) r.sound allowed) (λ y f. refl) (λ y f. L.grows c (ReturnPart q) y r.sound allowed f)
-          (subst (Others c c') (sym who) (returns_others G c q))
-          (returns_agree G c r.alone r.markers r.watchers r.seat id q d fits who a)
-          (stocked_length s.homes (slot_number G place first) zs)
-          stands kept r.marks r.takes
+        (L.kept c (ReturnPart q) r.sound allowed) (λ y f. refl) (λ y f. L.grows c (ReturnPart q) y r.sound allowed f)
+        (subst (Others c c') (sym who) (returns_others G c q))
+        (returns_agree G c r.alone r.markers r.watchers r.seat id q d fits who a)
+        (stocked_length s.homes (slot_number G place first) zs)
+        stands kept r.marks r.takes
 
   -- the return of a partition whose buffers have the receiver's round and their cells' lengths
   pub return_leads : (s : At) (r : Rule may key s) (id : ℕ) (d : View) (q v : ℕ) (ys : List Buf) → get_elem? s.views id ≡ some d → d.standing ≡ Seated → MayMake d (ReturnPart q)
       → length ys ≡ first_received G (q + 1) - first_received G q → AreOf G d.recv.round (first_received G q) ys → v ≡ get_or s.words (number G (Return (q / 32))) 0
-      → Held may key record { words = set s.words (number G (Return (q / 32))) (bit_or v (2 ^ (q % 32)));
+      → Held may key record {
+        words = set s.words (number G (Return (q / 32))) (bit_or v (2 ^ (q % 32)));
         homes = stocked s.homes (slot_number G (d.recv.round % G.depth) (first_received G q)) (map Some ys);
-        views = set s.views id (view.given_back q (bit_or v (2 ^ (q % 32))) d) } (after G r.core (ReturnPart q))
+        views = set s.views id (view.given_back q (bit_or v (2 ^ (q % 32))) d);
+      } (after G r.core (ReturnPart q))
   return_leads s r id d q v ys at live h size all found =
       let a = r.seats id d at live in let x : Name = Return (q / 32) in
       let allowed : IsAllowed G r.core (ReturnPart q) = may_make G r.shape r.core r.alone r.markers r.watchers r.seat id d r.sound a (ReturnPart q) h in
@@ -198,6 +203,8 @@ module _ {T : Type 0} (may : T → ℕ → ℕ → ℕ → Type 0) (key : Key T)
       let word : r.core.word x ≡ v = sym (found ∙ r.words x fits) in
       let now : d.recv.round ≡ r.core.recv.round = ap (λ (z : RecvSide). z.round) (a.recv_is h.0) in
       let led = returns_home s r q ys allowed size (subst (λ (z : ℕ). AreOf G z (first_received G q) ys) now all) id d at live h.0 in
-      subst (λ (z : ℕ × ℕ). Held may key record { words = set s.words (number G x) (bit_or z.0 (2 ^ (q % 32)));
+      subst (λ (z : ℕ × ℕ). Held may key record {
+        words = set s.words (number G x) (bit_or z.0 (2 ^ (q % 32)));
         homes = stocked s.homes (slot_number G (z.1 % G.depth) (first_received G q)) (map Some ys);
-        views = set s.views id (view.given_back q (bit_or z.0 (2 ^ (q % 32))) d) } (after G r.core (ReturnPart q))) (λ i. (word i, sym now i)) led
+        views = set s.views id (view.given_back q (bit_or z.0 (2 ^ (q % 32))) d);
+      } (after G r.core (ReturnPart q))) (λ i. (word i, sym now i)) led

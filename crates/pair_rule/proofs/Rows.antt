@@ -7,6 +7,7 @@ use Rattle.slot_rows.proofs.Overlays.{row_at}
 use Rattle.pair_rule.specs.Seats.{values}
 
 module _ {S : Type 0} where
+  -- the values of a row of slots
   pub values_row : (k : ℕ) (ys : List S) → values (row k ys) ≡ ys
   values_row k [] = refl
   values_row k (y ∷ ys) = ap (λ (l : List S). y ∷ l) (values_row (suc k) ys)
@@ -15,6 +16,7 @@ module _ {S : Type 0} where
   values_length [] = refl
   values_length (x ∷ l) = ap suc (values_length l)
 
+  -- a value is set with its slot
   pub values_set : (l : List (ℕ × S)) (c : ℕ) (x : ℕ × S) → values (set l c x) ≡ set (values l) c x.1
   values_set [] c x = refl
   values_set (y ∷ l) zero x = refl

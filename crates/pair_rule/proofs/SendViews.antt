@@ -1,6 +1,6 @@
 -- What holds of the send side's view holds after each of its steps: the release word that it has seen only rises, and the first claim
 -- word of a round is shut where that word has room for the next round.
-use Rattle.std.proofs.Common.{◌≡◌, ◌≢◌, ◌⊎◌, ℕ, zero, suc, ◌+◌, ◌-◌, ◌*◌, ◌%◌, ◌<◌, ◌≤◌, Bool, false, ◌==◌, ◌&&◌, nat_lt, List, [], ◌++◌, length, get_or, inl, inr, refl, sym, ap, ◌∙◌, subst, arith, length-set}
+use Rattle.std.proofs.Common.{◌≡◌, ◌≢◌, ℕ, zero, suc, ◌+◌, ◌*◌, ◌%◌, ◌<◌, ◌≤◌, Bool, false, ◌==◌, ◌&&◌, nat_lt, List, [], length, get_or, inl, inr, refl, sym, ap, ◌∙◌, subst, arith, length-set}
 use Rattle.std.specs.Prelude.{if◌then◌else◌}
 use Rattle.std.proofs.lemmas.List.{get_or-set_same, length-replicate}
 use Rattle.std.proofs.lemmas.List.FromFn.{length-map-range_with_len, get_or-map-range_with_len}
@@ -53,24 +53,30 @@ send_saw d x w side small room v =
 send_room : (d : View) (x : Name) (w k : ℕ) → Fits d.geometry x → Release ≢ x → k < round_in (seen d Release) + d.geometry.depth → k < round_in (seen (saw x w d) Release) + d.geometry.depth
 send_room d x w k fits other = subst (λ (z : ℕ). k < round_in z + d.geometry.depth) (sym (seen_else d x Release w fits tt other))
 
+-- after a look at any other word
 pub send_looks : (d : View) (x : Name) (w : ℕ) → Fits d.geometry x → Release ≢ x → IsSendView d → IsSendView (saw x w d)
 send_looks d x w fits other v = send_saw d x w d.send v.limit (λ shut. send_room d x w d.send.round fits other (v.room shut)) v
 
+-- after a look at a claim word
 pub send_looks_claim : (d : View) (c w : ℕ) → c < claim_words d.geometry → IsSendView d → IsSendView (saw (Claim c) w d)
 send_looks_claim d c w there = send_looks d (Claim c) w there (λ e. absurd (cc))
 
+-- after a look at a piece's word
 pub send_looks_piece : (d : View) (e i w : ℕ) → e < d.geometry.depth → i < pieces d.geometry → IsSendView d → IsSendView (saw (Piece e i) w d)
 send_looks_piece d e i w deep there = send_looks d (Piece e i) w (deep, there) (λ e. absurd (cc))
 
+-- after a look at the release word
 pub send_learns : (d : View) (w : ℕ) → IsLater (seen d Release) w → IsSendView d → IsSendView (saw Release w d)
 send_learns d w later v =
     let at = get_or-set_same d.seen (number d.geometry Release) w 0 (subst (λ (z : ℕ). number d.geometry Release < z) (sym v.words) (number_lt d.geometry Release tt)) in
     send_saw d Release w d.send v.limit (λ shut.
     subst (λ (z : ℕ). d.send.round < round_in z + d.geometry.depth) (sym at) (let r = v.room shut in let up = round_rises (seen d Release) w later in omega arith)) v
 
+-- after a piece's word is stored
 pub send_stores_piece : (d : View) (k i : ℕ) → MayMake d (StorePiece k i) → IsSendView d → IsSendView (stored_piece k i d)
 send_stores_piece d k i h v = send_saw d (Piece (k % d.geometry.depth) i) (empty k) (stored_piece k i d).send h.2 (λ shut. absurd (omega (arith, shut))) v
 
+-- after a claim word is stored
 pub send_stores_claim : (d : View) (k c : ℕ) → MayMake d (StoreClaim k c) → IsSendView d → IsSendView (stored_claim c d)
 send_stores_claim d k c h v =
     send_saw d (Claim c) (empty d.send.round) (stored_claim c d).send v.limit (λ shut. send_room d (Claim c) (empty d.send.round) d.send.round h.1 (λ e. absurd (cc)) (v.room shut)) v
@@ -80,6 +86,7 @@ shut_room : (d : View) (c : ℕ) → MayMake d (ShutClaim c) → IsSendView d �
 shut_room d zero h v = (h.4 refl).room
 shut_room d (suc c) h v = v.room (let e = h.3 in omega arith)
 
+-- after a claim word is shut
 pub send_shuts : (d : View) (c w : ℕ) → MayMake d (ShutClaim c) → IsSendView d → IsSendView (shut_claim c w d)
 send_shuts d c w h v = send_saw d (Claim c) w (shut_claim c w d).send v.limit (λ shut. send_room d (Claim c) w d.send.round h.1 (λ e. absurd (cc)) (shut_room d c h v)) v
 
@@ -98,15 +105,19 @@ send_raised d e side marks same shut_same v =
     send_seeing d (told d e).seen d.looks d.made side marks (length-map-range_with_len (told_word d e) 0 (word_count d.geometry) ∙ sym v.words) refl
     (let l = v.limit in omega arith) (λ shut. let r = v.room (omega arith) in omega arith) v
 
+-- after it was told something
 pub send_told : (d e : View) → IsSendView d → IsSendView (told d e)
 send_told d e = send_raised d e d.send d.marks refl refl
 
+-- after a marker was made
 pub send_splits : (d : View) → IsSendView d → IsSendView (with_marker d)
 send_splits d v = send_seeing d d.seen d.looks (with_marker d).made (with_marker d).send d.marks refl refl v.limit v.room v
 
+-- after a marker was taken back
 pub send_joins : (d e : View) → IsSendView d → IsSendView (with_marker_back d e)
 send_joins d e = send_raised d e (with_marker_back d e).send (with_marker_back d e).marks refl refl
 
+-- before the first step
 pub first_send : (g : Shape) → IsShape g → IsSendView (in_company (first_view g))
 first_send g v = record {
   number = refl;

@@ -1,17 +1,11 @@
 -- The steps of the two sides that move no slot: each is a step of the core, and the view follows it.
-use Rattle.std.proofs.Common.{◌≡◌, ◌≢◌, ◌⊎◌, inl, inr, ⊎_elim, ℕ, suc, ◌+◌, ◌*◌, ◌%◌, ◌/◌, ◌++◌, ◌^◌, ◌<◌, ◌≤◌, Bool, true, false, List, [], ◌∷◌, length, get_or, set, Contains, Option, Some, None, refl, sym, ap, ◌∙◌, subst, arith, bit_or, length-set}
+use Rattle.std.proofs.Common.{◌≡◌, ◌≢◌, ℕ, Bool, List, get_or, set, refl, sym, ap, ◌∙◌, subst}
 use mathlib.Core.Option.{some}
 use lib.ListN.{get_elem?}
-use Rattle.gate_word.specs.Words.{round_in}
-use Rattle.gate_word.specs.Order.{IsLater}
-use Rattle.part_geometry.specs.Shape.{Shape, IsShape}
-use Rattle.part_geometry.specs.Pieces.{pieces}
-use Rattle.pair_core.specs.Words.{bit, empty}
-use Rattle.pair_core.specs.Names.{Name, Claim, Release, Take, Return, Piece, Fits, number, put_word, claim_words, take_words}
-use Rattle.pair_core.specs.Core.{Core}
-use Rattle.pair_core.specs.Reading.{part_bit, IsFull}
-use Rattle.pair_core.specs.Steps.{saw, wrote, loads, stores_piece, stores_claim, shuts_claim, stores_return, stores_take, releases}
-use Rattle.pair_core.specs.Moves.{Move, StorePiece, StoreClaim, LoadClaim, LoadPiece, LoadRelease, ShutClaim, LayPiece, StoreReturn, StoreTake, StoreRelease, IsAllowed, after, IsSendIdle, IsSendActive, IsRecvIdle, IsRecvActive, MayShut}
+use Rattle.part_geometry.specs.Shape.{Shape}
+use Rattle.pair_core.specs.Names.{Name, Fits, number, put_word}
+use Rattle.pair_core.specs.Steps.{saw, wrote, loads}
+use Rattle.pair_core.specs.Moves.{Move, LayPiece, after}
 use Rattle.pair_core.specs.declared.view.SendSide.{SendSide}
 use Rattle.pair_core.specs.declared.view.RecvSide.{RecvSide}
 use Rattle.pair_core.proofs.Facts.{any_word}
@@ -72,43 +66,43 @@ module _ (g : Shape) (c : Shown) (alone : Bool) (markers watchers : ℕ) (seat :
       → Agrees g (record (wrote 0 x w c) { send = side }) alone markers watchers seat id (record (view.saw x w d) { send = side })
   send_agrees side x w zeroth fits a =
       let b = subst (λ (z : ℕ). Agrees g (saw z x w c) alone markers watchers seat id (view.saw x w d)) zeroth (saw_agrees g c alone markers watchers seat id d x w fits a) in record {
-      geometry = b.geometry;
-      seat_is = b.seat_is;
-      given = b.given;
-      live = b.live;
-      seen_size = b.seen_size;
-      looks_size = b.looks_size;
-      seen_is = b.seen_is;
-      looks_is = b.looks_is;
-      pending_is = b.pending_is;
-      marks_is = b.marks_is;
-      send_is = λ _. refl;
-      markers_is = b.markers_is;
-      recv_is = b.recv_is;
-      takes_is = b.takes_is;
-      watchers_is = b.watchers_is;
-    }
+        geometry = b.geometry;
+        seat_is = b.seat_is;
+        given = b.given;
+        live = b.live;
+        seen_size = b.seen_size;
+        looks_size = b.looks_size;
+        seen_is = b.seen_is;
+        looks_is = b.looks_is;
+        pending_is = b.pending_is;
+        marks_is = b.marks_is;
+        send_is = λ _. refl;
+        markers_is = b.markers_is;
+        recv_is = b.recv_is;
+        takes_is = b.takes_is;
+        watchers_is = b.watchers_is;
+      }
 
   recv_agrees : (side : RecvSide) (x : Name) (w : ℕ) → d.number ≡ 1 → Fits g x → Agrees g c alone markers watchers seat id d
       → Agrees g (record (wrote 1 x w c) { recv = side }) alone markers watchers seat id (record (view.saw x w d) { recv = side })
   recv_agrees side x w first fits a =
       let b = subst (λ (z : ℕ). Agrees g (saw z x w c) alone markers watchers seat id (view.saw x w d)) first (saw_agrees g c alone markers watchers seat id d x w fits a) in record {
-      geometry = b.geometry;
-      seat_is = b.seat_is;
-      given = b.given;
-      live = b.live;
-      seen_size = b.seen_size;
-      looks_size = b.looks_size;
-      seen_is = b.seen_is;
-      looks_is = b.looks_is;
-      pending_is = b.pending_is;
-      marks_is = b.marks_is;
-      send_is = b.send_is;
-      markers_is = b.markers_is;
-      recv_is = λ _. refl;
-      takes_is = b.takes_is;
-      watchers_is = b.watchers_is;
-    }
+        geometry = b.geometry;
+        seat_is = b.seat_is;
+        given = b.given;
+        live = b.live;
+        seen_size = b.seen_size;
+        looks_size = b.looks_size;
+        seen_is = b.seen_is;
+        looks_is = b.looks_is;
+        pending_is = b.pending_is;
+        marks_is = b.marks_is;
+        send_is = b.send_is;
+        markers_is = b.markers_is;
+        recv_is = λ _. refl;
+        takes_is = b.takes_is;
+        watchers_is = b.watchers_is;
+      }
 
 module _ {T : Type 0} (may : T → ℕ → ℕ → ℕ → Type 0) (key : Key T) (L : CoreLaws key.geometry) where
   -- the table after a step that takes or gives no slot
@@ -126,12 +120,12 @@ module _ {T : Type 0} (may : T → ℕ → ℕ → ℕ → Type 0) (key : Key T)
       let c' : Shown = record (wrote 0 x w r.core) { send = side r.core.send } in
       let view_as : Shape × SendSide → View = λ z. record (view.saw (name z.0) w d) { send = side z.1 } in
       let led = quiet may key L s r id d (view_as (g, r.core.send)) m c' x w at live live refl fits allowed is other (λ y f. refl)
-        (subst (Others r.core c') (sym zeroth) (send_others r.core (side r.core.send) x w))
-        (send_agrees g r.core r.alone r.markers r.watchers r.seat id d (side r.core.send) x w zeroth fits a)
-        (λ e c. refl) (λ n. refl) refl in
+      (subst (Others r.core c') (sym zeroth) (send_others r.core (side r.core.send) x w))
+      (send_agrees g r.core r.alone r.markers r.watchers r.seat id d (side r.core.send) x w zeroth fits a)
+      (λ e c. refl) (λ n. refl) refl in
       let same : ◌≡◌ {A = Shape × SendSide} (g, r.core.send) (d.geometry, d.send) = λ i. (sym a.geometry i, sym (a.send_is zeroth) i) in
       subst (λ (z : Shown). Held may key (stepped_to s x w id (view_as (d.geometry, d.send))) z) (sym is)
-        (subst (λ (z : Shape × SendSide). Held may key (stepped_to s x w id (view_as z)) c') same led)
+      (subst (λ (z : Shape × SendSide). Held may key (stepped_to s x w id (view_as z)) c') same led)
 
   pub receives : (s : At) (r : Rule may key s) (id : ℕ) (d : View) (m : Move (List ℕ)) (x : Name) (w : ℕ) (side : RecvSide → RecvSide)
       → get_elem? s.views id ≡ some d → d.standing ≡ Seated → d.number ≡ 1 → Fits key.geometry x → MayMake d m
@@ -143,11 +137,11 @@ module _ {T : Type 0} (may : T → ℕ → ℕ → ℕ → Type 0) (key : Key T)
       let c' : Shown = record (wrote 1 x w r.core) { recv = side r.core.recv } in
       let view_as : RecvSide → View = λ z. record (view.saw x w d) { recv = side z } in
       let led = quiet may key L s r id d (view_as r.core.recv) m c' x w at live live refl fits allowed is other (λ y f. refl)
-        (subst (Others r.core c') (sym first) (recv_others r.core (side r.core.recv) x w))
-        (recv_agrees g r.core r.alone r.markers r.watchers r.seat id d (side r.core.recv) x w first fits a)
-        (λ e c. refl) (λ n. refl) refl in
+      (subst (Others r.core c') (sym first) (recv_others r.core (side r.core.recv) x w))
+      (recv_agrees g r.core r.alone r.markers r.watchers r.seat id d (side r.core.recv) x w first fits a)
+      (λ e c. refl) (λ n. refl) refl in
       subst (λ (z : Shown). Held may key (stepped_to s x w id (view_as d.recv)) z) (sym is)
-        (subst (λ (z : RecvSide). Held may key (stepped_to s x w id (view_as z)) c') (sym (a.recv_is first)) led)
+      (subst (λ (z : RecvSide). Held may key (stepped_to s x w id (view_as z)) c') (sym (a.recv_is first)) led)
 
   -- a seat looks at the word x, and finds it as it is
   pub looks : (s : At) (r : Rule may key s) (id : ℕ) (d : View) (m : Move (List ℕ)) (x : Name) (w : ℕ)
@@ -161,8 +155,8 @@ module _ {T : Type 0} (may : T → ℕ → ℕ → ℕ → Type 0) (key : Key T)
       let c' : Shown = saw n x w r.core in
       let is' : after g r.core m ≡ c' = is ∙ ap (λ (z : ℕ). saw n x z r.core) (sym e) in
       let led = quiet may key L s r id d (view.saw x w d) m c' x w at live live refl fits allowed is' other
-        (λ y f. any_word x y w r.core.word (λ z v. v ≡ r.core.word z) e (λ z. refl))
-        (saw_others r.core n x w)
-        (saw_agrees g r.core r.alone r.markers r.watchers r.seat id d x w fits a)
-        (λ e c. refl) (λ n. refl) refl in
+      (λ y f. any_word x y w r.core.word (λ z v. v ≡ r.core.word z) e (λ z. refl))
+      (saw_others r.core n x w)
+      (saw_agrees g r.core r.alone r.markers r.watchers r.seat id d x w fits a)
+      (λ e c. refl) (λ n. refl) refl in
       subst (λ (z : Shown). Held may key (stepped_to s x w id (view.saw x w d)) z) (sym is') led

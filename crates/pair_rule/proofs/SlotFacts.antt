@@ -1,14 +1,11 @@
 -- Slots by place and cell: the slots of cells in a row stand in a row, and no others do.
-use Rattle.std.proofs.Common.{◌≡◌, ◌≢◌, ◌⊎◌, inl, inr, ⊎_elim, ℕ, zero, suc, ◌+◌, ◌-◌, ◌*◌, ◌%◌, ◌/◌, ◌<◌, ◌≤◌, Bool, true, false, ◌==◌, ◌&&◌, List, [], ◌∷◌, ◌++◌, length, map, refl, sym, ap, ◌∙◌, subst, arith}
+use Rattle.std.proofs.Common.{◌≡◌, ◌⊎◌, inl, inr, ℕ, zero, suc, ◌+◌, ◌-◌, ◌*◌, ◌<◌, ◌≤◌, Bool, true, false, ◌==◌, ◌&&◌, List, [], ◌∷◌, length, refl, sym, ap, ◌∙◌, subst, arith}
 use Rattle.std.specs.Prelude.{if◌then◌else◌}
-use Rattle.std.specs.List.{range_with_len, flat_map}
-use Rattle.std.proofs.lemmas.Bool.{cases_lt, cases_eq, eq-eqb, ne_eqb, eqb-true}
+use Rattle.std.specs.List.{range_with_len}
+use Rattle.std.proofs.lemmas.Bool.{cases_lt, eq-eqb, eqb-true}
 use Rattle.std.proofs.Math.Nat.{mul-le-mul_right}
 use mathlib.Core.Logic.{dite}
-use mathlib.Core.Option.{some, none}
-use mathlib.Core.Option as maybe
 use native.Mathlib.Decide.{ℕ_discrete}
-use lib.ListN.{get_elem?}
 use Rattle.part_geometry.specs.Shape.{Shape, IsShape}
 use Rattle.part_geometry.specs.Cells.{cells, send_of, recv_of}
 use Rattle.part_tables.specs.Parts.{first_received}
@@ -16,9 +13,7 @@ use Rattle.part_tables.specs.Bytes.{cell_bytes, part_bytes}
 use Rattle.part_tables.proofs.Facts.{received-row, cell_bytes-agree, first_received-le, in_received}
 use Rattle.pair_core.specs.Core.{Slot}
 use Rattle.pair_core.specs.Steps.{put_slots}
-use Rattle.pair_core.proofs.Facts.{row_lt, row_one, cell_one}
 use Rattle.slot_rows.specs.Lists.{Every}
-use Rattle.slot_rows.proofs.Acts.{cleared, cleared_here, cleared_else, stocked, stocked_else}
 use Rattle.pair_rule.specs.Rule.{slot_number}
 
 -- cell c at place e is one of the n cells from f on at place d
@@ -97,11 +92,11 @@ part_bytes-agree g v marked others q inside same =
     let whole : first_received g (q + 1) ≤ cells g = first_received-le g v (q + 1) in
     sym (received-row (cell_bytes g marked) g v marked q inside Each (λ k x xs low high e. let both = next_in k x xs e in (ap (cell_bytes g marked) both.0, both.1)) numbers size all)
     ∙ received-row (cell_bytes g marked) g v others q inside Each
-      (λ k x xs low high e. let both = next_in k x xs e in
-        let there : k < cells g = omega arith in
-        let of : recv_of g k ≡ q = (in_received g v q k there).1 (low, high) in
-        (ap (cell_bytes g marked) both.0 ∙ cell_bytes-agree g v marked others k there (same k there of), both.1))
-      numbers size all
+    (λ k x xs low high e. let both = next_in k x xs e in
+    let there : k < cells g = omega arith in
+    let of : recv_of g k ≡ q = (in_received g v q k there).1 (low, high) in
+    (ap (cell_bytes g marked) both.0 ∙ cell_bytes-agree g v marked others k there (same k there of), both.1))
+    numbers size all
   where
     length_range : (k n : ℕ) → length (range_with_len k n) ≡ n
     length_range k zero = refl

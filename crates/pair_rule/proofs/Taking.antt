@@ -1,32 +1,29 @@
 -- A take: the slots of a receive partition's cells go out to the receive side, with the bytes that were marked there in the
 -- receiver's round.
-use Rattle.std.proofs.Common.{◌≡◌, ◌≢◌, ◌⊎◌, inl, inr, ⊎_elim, ℕ, zero, suc, ◌+◌, ◌-◌, ◌*◌, ◌%◌, ◌/◌, ◌^◌, ◌<◌, ◌≤◌, Bool, true, false, ◌==◌, List, [], ◌∷◌, ◌++◌, length, map, get_or, set, Contains, Option, Some, None, refl, sym, ap, ◌∙◌, subst, arith, bit_or}
+use Rattle.std.proofs.Common.{◌≡◌, ⊎_elim, ℕ, zero, suc, ◌+◌, ◌-◌, ◌*◌, ◌%◌, ◌/◌, ◌^◌, ◌<◌, ◌≤◌, Bool, ◌==◌, List, [], ◌∷◌, ◌++◌, length, map, get_or, set, Option, Some, refl, sym, ap, ◌∙◌, subst, arith, bit_or}
 use Rattle.std.specs.List.{flat_map}
-use Rattle.std.proofs.lemmas.Bool.{cases_lt, eq-eqb, eqb-true}
-use Rattle.std.proofs.lemmas.List.{length-append}
+use Rattle.std.proofs.lemmas.Bool.{eq-eqb, eqb-true}
 use Rattle.std.proofs.Math.Nat.{mul-le-mul_right}
 use mathlib.Core.Option.{some, none}
 use mathlib.Core.Option as maybe
 use lib.ListN.{get_elem?}
 use Rattle.gate_word.specs.Words.{round_in}
-use Rattle.gate_word.specs.Order.{IsLater}
-use Rattle.part_geometry.specs.Shape.{Shape, IsShape}
+use Rattle.part_geometry.specs.Shape.{Shape}
 use Rattle.part_geometry.specs.Cells.{cells, start, end, send_of, recv_of}
 use Rattle.part_tables.specs.Parts.{first_received}
 use Rattle.part_tables.specs.Bytes.{bytes_between, byte_at, cell_bytes, part_bytes}
 use Rattle.part_tables.proofs.Facts.{in_received, first_received-le, first_received-mono, start-first_received, received-row, bytes_between-append, length-bytes_between, get_or-bytes_between, length-cell_bytes, length-part_bytes, cell-inside, byte_in}
-use Rattle.pair_core.specs.Names.{Name, Take, Fits, number, put, put_word, take_words}
-use Rattle.pair_core.specs.Core.{Core, Slot, Home, Out}
-use Rattle.pair_core.specs.Steps.{mark, wrote, saw, takes_part, put_slots}
-use Rattle.pair_core.specs.Moves.{Move, TakePart, LayPiece, IsAllowed, after}
-use Rattle.pair_core.specs.Sound.{Sound}
+use Rattle.pair_core.specs.Names.{Name, Take, Fits, number}
+use Rattle.pair_core.specs.Core.{Slot, Home, Out}
+use Rattle.pair_core.specs.Steps.{mark, saw, takes_part, put_slots}
+use Rattle.pair_core.specs.Moves.{TakePart, IsAllowed, after}
 use Rattle.pair_core.specs.Facts.{piece_word, IsKept}
 use Rattle.pair_core.specs.declared.view.Mark.{Mark}
 use Rattle.pair_core.specs.declared.view.RecvSide.{RecvSide}
 use Rattle.slot_rows.specs.Lists.{Every}
 use Rattle.slot_rows.proofs.Acts.{cleared, cleared_here, cleared_else, cleared_length, Stand, gathered, every_weaker}
 use Rattle.pair_rule.specs.Buf.{Buf}
-use Rattle.pair_rule.specs.Rule.{At, Shown, slot_number, cell_length, Stands, Agrees, MayStand, IsMarked, Rule}
+use Rattle.pair_rule.specs.Rule.{At, Shown, slot_number, cell_length, Stands, Agrees, MayStand, Rule}
 use Rattle.pair_rule.specs.Views as view
 use Rattle.pair_rule.specs.Steps.{MayMake, AreOf}
 use Rattle.pair_rule.specs.declared.view.View.{View}
@@ -46,8 +43,8 @@ may_append {T} may tag k from (x ∷ a) b left right zero low = left 0 (omega ar
 may_append {T} may tag k from (x ∷ a) b left right (suc j) low =
     let e : (n : ℕ) → suc from + n ≡ from + suc n = λ n. omega arith in
     subst (λ (z : ℕ). may tag k z (get_or (a ++ b) j 0)) (e j)
-      (may_append may tag k (suc from) a b (λ i less. subst (λ (z : ℕ). may tag k z (get_or a i 0)) (sym (e i)) (left (suc i) (omega arith)))
-        (λ i less. subst (λ (z : ℕ). may tag k (z + i) (get_or b i 0)) (sym (e (length a))) (right i less)) j (omega arith))
+    (may_append may tag k (suc from) a b (λ i less. subst (λ (z : ℕ). may tag k z (get_or a i 0)) (sym (e i)) (left (suc i) (omega arith)))
+    (λ i less. subst (λ (z : ℕ). may tag k (z + i) (get_or b i 0)) (sym (e (length a))) (right i less)) j (omega arith))
 
 -- a cell ends where the next one starts
 end-next : (g : Shape) (c : ℕ) → end g c ≡ start g (c + 1)
@@ -146,15 +143,15 @@ module _ {T : Type 0} (may : T → ℕ → ℕ → ℕ → Type 0) (key : Key T)
     gone =
         let P : ℕ → Buf → Type 0 = λ j y. (i : ℕ) → j ≡ place * cells G + i → Taken' i y in
         let each : (j : ℕ) → slot_number G place first ≤ j → j < slot_number G place first + count → (y : Buf) × (get_elem? s.homes j ≡ some (some (Some y))) × P j y = λ j from to.
-          let i : ℕ = j - place * cells G in
-          let at : place * cells G + i ≡ j = omega arith in
-          let within : i < cells G = let h = whole in omega arith in
-          let of : recv_of G i ≡ q = of_part i within (omega arith) (omega arith) in
-          let home = L.facts.take_home c q i w r.sound allowed within of in
-          let stands : Stands G i (get_elem? s.homes (slot_number G place i)) (Home k) = subst (Stands G i (get_elem? s.homes (slot_number G place i))) home.0 (r.slots place i there within) in
-          let now : round_in (piece_word G c place i) ≡ k = home.2 in
-          let is = r.kept place i stands.0 there within stands.1 home.1 (let p = positive in omega arith) ∙ ap (λ (z : ℕ). cell_bytes G (r.bytes z) i) now in
-          (stands.0, ap (get_elem? s.homes) (sym at) ∙ stands.1, λ x e. subst (λ (z : ℕ). Taken' z stands.0) (let z : i ≡ x = omega arith in z) (stands.2, stands.3, is)) in
+        let i : ℕ = j - place * cells G in
+        let at : place * cells G + i ≡ j = omega arith in
+        let within : i < cells G = let h = whole in omega arith in
+        let of : recv_of G i ≡ q = of_part i within (omega arith) (omega arith) in
+        let home = L.facts.take_home c q i w r.sound allowed within of in
+        let stands : Stands G i (get_elem? s.homes (slot_number G place i)) (Home k) = subst (Stands G i (get_elem? s.homes (slot_number G place i))) home.0 (r.slots place i there within) in
+        let now : round_in (piece_word G c place i) ≡ k = home.2 in
+        let is = r.kept place i stands.0 there within stands.1 home.1 (let p = positive in omega arith) ∙ ap (λ (z : ℕ). cell_bytes G (r.bytes z) i) now in
+        (stands.0, ap (get_elem? s.homes) (sym at) ∙ stands.1, λ x e. subst (λ (z : ℕ). Taken' z stands.0) (let z : i ≡ x = omega arith in z) (stands.2, stands.3, is)) in
         let g = gathered Some P s.homes (slot_number G place first) count each in
         (g.0, g.1, g.2, every_moved P Taken' (place * cells G) first g.0 (λ x y h. h x refl) g.3)
 
@@ -170,7 +167,7 @@ module _ {T : Type 0} (may : T → ℕ → ℕ → ℕ → Type 0) (key : Key T)
         let size = length-cell_bytes G bytes i in
         let a = h.low in let b = h.high in let d = h.rises in
         let byte : get_or (cell_bytes G bytes i) j 0 ≡ get_or (bytes p) (x - p * G.send_bytes) 0 =
-          get_or-bytes_between (byte_at G bytes) (start G i) (end G i) j (omega arith) ∙ byte_in G r.shape bytes p x (omega arith) (omega arith) in
+        get_or-bytes_between (byte_at G bytes) (start G i) (end G i) j (omega arith) ∙ byte_in G r.shape bytes p x (omega arith) (omega arith) in
         let m = L.facts.take_marked c q i w r.sound allowed within of in
         let one = in_times k p (c.marks m.0) (let e = m.1 in omega arith) in
         let ok = r.marks m.0 one.0 one.1 in
@@ -182,9 +179,9 @@ module _ {T : Type 0} (may : T → ℕ → ℕ → ℕ → Type 0) (key : Key T)
 
     all_may : (n : ℕ) → n ≤ count → (start G first ≤ start G (first + n)) × MayStand may key.tag k (start G first) (bytes_between (byte_at G bytes) (start G first) (start G (first + n)))
     all_may zero few = let e : first + 0 ≡ first = omega arith in (
-        let z : start G (first + 0) ≡ start G first = ap (start G) e in omega arith,
-        λ j less. absurd (let z : start G (first + 0) ≡ start G first = ap (start G) e in let size = length-bytes_between (byte_at G bytes) (start G first) (start G (first + 0)) in omega arith),
-      )
+      let z : start G (first + 0) ≡ start G first = ap (start G) e in omega arith,
+      λ j less. absurd (let z : start G (first + 0) ≡ start G first = ap (start G) e in let size = length-bytes_between (byte_at G bytes) (start G first) (start G (first + 0)) in omega arith),
+    )
     all_may (suc n) few =
         let before = all_may n (omega arith) in let i : ℕ = first + n in
         let within : i < cells G = let h = whole in omega arith in
@@ -192,13 +189,12 @@ module _ {T : Type 0} (may : T → ℕ → ℕ → ℕ → Type 0) (key : Key T)
         let next : end G i ≡ start G (first + suc n) = end-next G i ∙ ap (start G) (let e : i + 1 ≡ first + suc n = omega arith in e) in
         let f : ℕ → ℕ = byte_at G bytes in
         let joined : bytes_between f (start G first) (start G i) ++ bytes_between f (start G i) (end G i) ≡ bytes_between f (start G first) (start G (first + suc n)) =
-          bytes_between-append f (start G first) (start G i) (end G i) a (omega arith) ∙ ap (bytes_between f (start G first)) next in
+        bytes_between-append f (start G first) (start G i) (end G i) a (omega arith) ∙ ap (bytes_between f (start G first)) next in
         let size = length-bytes_between f (start G first) (start G i) in
-        let at : start G first + length (bytes_between f (start G first) (start G i)) ≡ start G i = omega arith in
-        (
+        let at : start G first + length (bytes_between f (start G first) (start G i)) ≡ start G i = omega arith in (
           omega arith,
           subst (MayStand may key.tag k (start G first)) joined
-            (may_append may key.tag k (start G first) (bytes_between f (start G first) (start G i)) (bytes_between f (start G i) (end G i)) before.1
+              (may_append may key.tag k (start G first) (bytes_between f (start G first) (start G i)) (bytes_between f (start G i) (end G i)) before.1
               (subst (λ (z : ℕ). MayStand may key.tag k z (bytes_between f (start G i) (end G i))) (sym at) (cell_may i within (of_part i within (omega arith) (omega arith))))),
         )
 
@@ -213,39 +209,44 @@ module _ {T : Type 0} (may : T → ℕ → ℕ → ℕ → Type 0) (key : Key T)
         → Stands G i (get_elem? (cleared s.homes (slot_number G place first) count) (slot_number G e i)) (put_slots c.slot place (λ j. recv_of G j == q) (Out 1) e i)
     stands e i deep within = ⊎_elim
         (λ (all : IsAmong place first count e i). let at = number_in G place first count e i all in
-          subst (Stands G i (get_elem? (cleared s.homes (slot_number G place first) count) (slot_number G e i)))
-            (sym (slots.put_here c.slot place (λ j. recv_of G j == q) (Out 1) e i all.0 (eq-eqb (recv_of G i) q (of_part i within all.1 all.2))))
-            (cleared_here s.homes (slot_number G place first) count (slot_number G e i) at.0 at.1 room))
+        subst (Stands G i (get_elem? (cleared s.homes (slot_number G place first) count) (slot_number G e i)))
+        (sym (slots.put_here c.slot place (λ j. recv_of G j == q) (Out 1) e i all.0 (eq-eqb (recv_of G i) q (of_part i within all.1 all.2))))
+        (cleared_here s.homes (slot_number G place first) count (slot_number G e i) at.0 at.1 room))
         (λ (not : ¬ IsAmong place first count e i).
-          subst (λ (z : maybe.Option (maybe.Option (Option Buf)) × Slot). Stands G i z.0 z.1)
-            (λ j. (sym (cleared_else s.homes (slot_number G place first) count (slot_number G e i) (number_out G place first count e i within whole not)) j,
-              sym (slots.put_else c.slot place (λ x. recv_of G x == q) (Out 1) e i (λ both. let h = in_part i within (eqb-true (recv_of G i) q both.1) in not (both.0, h.0, h.1))) j))
-            (r.slots e i deep within))
+        subst (λ (z : maybe.Option (maybe.Option (Option Buf)) × Slot). Stands G i z.0 z.1)
+        (λ j. (
+          sym (cleared_else s.homes (slot_number G place first) count (slot_number G e i) (number_out G place first count e i within whole not)) j,
+          sym (slots.put_else c.slot place (λ x. recv_of G x == q) (Out 1) e i (λ both. let h = in_part i within (eqb-true (recv_of G i) q both.1) in not (both.0, h.0, h.1))) j,
+        ))
+        (r.slots e i deep within))
         (among place first count e i)
 
     kept : (e i : ℕ) (y : Buf) → e < G.depth → i < cells G → get_elem? (cleared s.homes (slot_number G place first) count) (slot_number G e i) ≡ some (some (Some y))
         → IsKept G c e i → 1 ≤ round_in (piece_word G c e i) → y.bytes ≡ cell_bytes G (r.bytes (round_in (piece_word G c e i))) i
     kept e i y deep within home tie some' = ⊎_elim
         (λ (all : IsAmong place first count e i). let at = number_in G place first count e i all in
-          let out = cleared_here s.homes (slot_number G place first) count (slot_number G e i) at.0 at.1 room in absurd (cc (sym out ∙ home)))
+        let out = cleared_here s.homes (slot_number G place first) count (slot_number G e i) at.0 at.1 room in absurd (cc (sym out ∙ home)))
         (λ (not : ¬ IsAmong place first count e i).
-          r.kept e i y deep within (sym (cleared_else s.homes (slot_number G place first) count (slot_number G e i) (number_out G place first count e i within whole not)) ∙ home) tie some')
+        r.kept e i y deep within (sym (cleared_else s.homes (slot_number G place first) count (slot_number G e i) (number_out G place first count e i within whole not)) ∙ home) tie some')
         (among place first count e i)
 
     pub takes_out : (id : ℕ) (d : View) → get_elem? s.views id ≡ some d → d.standing ≡ Seated → d.number ≡ 1 → w ≡ part_bytes G bytes q
-        → Held may key record { words = set s.words (number G (Take (q / 32))) (bit_or (c.word (Take (q / 32))) (2 ^ (q % 32))); homes = cleared s.homes (slot_number G place first) count;
-          views = set s.views id (view.taken q w (bit_or (c.word (Take (q / 32))) (2 ^ (q % 32))) d) } (takes_part G q w c)
+        → Held may key record {
+          words = set s.words (number G (Take (q / 32))) (bit_or (c.word (Take (q / 32))) (2 ^ (q % 32)));
+          homes = cleared s.homes (slot_number G place first) count;
+          views = set s.views id (view.taken q w (bit_or (c.word (Take (q / 32))) (2 ^ (q % 32))) d);
+        } (takes_part G q w c)
     takes_out id d at live who of =
         let x : Name = Take (q / 32) in let v : ℕ = bit_or (c.word x) (2 ^ (q % 32)) in
         let fits : Fits G x = word_there q G.recv_parts inside in
         let a = r.seats id d at live in
         steps may key s r id d (view.taken q w v d) x v (cleared s.homes (slot_number G place first) count) (takes_part G q w c) r.bytes at live live refl fits
-          (L.kept c (TakePart q w) r.sound allowed) (λ y f. refl) (λ y f. L.grows c (TakePart q w) y r.sound allowed f)
-          (subst (Others c (takes_part G q w c)) (sym who) (takes_others G c q w))
-          (takes_agree G c r.alone r.markers r.watchers r.seat id q w d fits who a)
-          (cleared_length s.homes (slot_number G place first) count)
-          stands kept r.marks
-          (λ m has. ⊎_elim (λ (e : mark k q w ≡ m). subst (λ (z : Mark (List ℕ)). z.with ≡ part_bytes G (r.bytes z.round) z.partition) e of) (r.takes m) (in_cons (mark k q w) m c.takes has))
+        (L.kept c (TakePart q w) r.sound allowed) (λ y f. refl) (λ y f. L.grows c (TakePart q w) y r.sound allowed f)
+        (subst (Others c (takes_part G q w c)) (sym who) (takes_others G c q w))
+        (takes_agree G c r.alone r.markers r.watchers r.seat id q w d fits who a)
+        (cleared_length s.homes (slot_number G place first) count)
+        stands kept r.marks
+        (λ m has. ⊎_elim (λ (e : mark k q w ≡ m). subst (λ (z : Mark (List ℕ)). z.with ≡ part_bytes G (r.bytes z.round) z.partition) e of) (r.takes m) (in_cons (mark k q w) m c.takes has))
 
   -- what a take leads to, and what the seat is told: buffers with the receiver's round and their cells' lengths, which have the bytes
   -- that the take keeps, and these may stand there
@@ -258,9 +259,11 @@ module _ {T : Type 0} (may : T → ℕ → ℕ → ℕ → Type 0) (key : Key T)
     pub bytes : flat_map (λ (y : Buf). y.bytes) bufs ≡ with
     pub long : length with ≡ G.recv_bytes
     pub may_stand : MayStand may key.tag k (q * G.recv_bytes) with
-    pub led : Held may key record { words = set s.words (number G (Take (q / 32))) (bit_or v (2 ^ (q % 32)));
+    pub led : Held may key record {
+      words = set s.words (number G (Take (q / 32))) (bit_or v (2 ^ (q % 32)));
       homes = cleared s.homes (slot_number G (k % G.depth) (first_received G q)) (first_received G (q + 1) - first_received G q);
-      views = set s.views id (view.taken q with (bit_or v (2 ^ (q % 32))) d) } (after G c (TakePart q with))
+      views = set s.views id (view.taken q with (bit_or v (2 ^ (q % 32))) d);
+    } (after G c (TakePart q with))
 
   pub take_leads : (s : At) (r : Rule may key s) (id : ℕ) (d : View) (q v : ℕ) → get_elem? s.views id ≡ some d → d.standing ≡ Seated → MayMake d (TakePart q [])
       → v ≡ get_or s.words (number G (Take (q / 32))) 0 → Takes s id d q v d.recv.round r.core
@@ -279,12 +282,14 @@ module _ {T : Type 0} (may : T → ℕ → ℕ → ℕ → Type 0) (key : Key T)
         size = g.1;
         home = g.2;
         of = every_weaker (λ i y. (y.round ≡ r.core.recv.round) × (length y.bytes ≡ cell_length G i) × (y.bytes ≡ cell_bytes G (r.bytes r.core.recv.round) i))
-          (λ i y. (y.round ≡ r.core.recv.round) × (length y.bytes ≡ cell_length G i)) (first_received G q) g.0 (λ i y from to e. (e.0, e.1)) g.3;
+            (λ i y. (y.round ≡ r.core.recv.round) × (length y.bytes ≡ cell_length G i)) (first_received G q) g.0 (λ i y from to e. (e.0, e.1)) g.3;
         bytes = whole_bytes s r q w allowed g.0 g.1 g.3;
         long = length-part_bytes G (r.bytes r.core.recv.round) q;
         may_stand = may_stand s r q w allowed;
-        led = subst (λ (z : ℕ). Held may key record { words = set s.words (number G x) (bit_or z (2 ^ (q % 32)));
+        led = subst (λ (z : ℕ). Held may key record {
+          words = set s.words (number G x) (bit_or z (2 ^ (q % 32)));
           homes = cleared s.homes (slot_number G (r.core.recv.round % G.depth) (first_received G q)) (first_received G (q + 1) - first_received G q);
-          views = set s.views id (view.taken q w (bit_or z (2 ^ (q % 32))) d) } (after G r.core (TakePart q w))) word led;
+          views = set s.views id (view.taken q w (bit_or z (2 ^ (q % 32))) d);
+        } (after G r.core (TakePart q w))) word led;
       } in
       subst (λ (z : ℕ). Takes s id d q v z r.core) now here

@@ -1,5 +1,6 @@
 -- Views as they are made, and how two become one.
-use Rattle.std.specs.Prelude.{◌≡◌, ℕ, ◌+◌, ◌-◌, ◌*◌, ◌%◌, Bool, true, false, if◌then◌else◌, nat_lt, List, [], ◌++◌, map, replicate, Option, Some, None}
+use Rattle.std.specs.Prelude.{ℕ, ◌+◌, ◌-◌, ◌*◌, ◌%◌, true, false, if◌then◌else◌, nat_lt, List, [], ◌++◌, map}
+use Rattle.std.specs.Prelude.{replicate, Option, Some, None}
 use Rattle.std.specs.List.{range_with_len}
 use Rattle.part_geometry.specs.Shape.{Shape}
 use Rattle.part_geometry.specs.Cells.{cells}
@@ -8,22 +9,22 @@ use Rattle.gate_word.specs.Words.{word_of}
 use Rattle.pair_core.specs.Names.{claim_words, take_words}
 use Rattle.pair_core.specs.Moves.{part_mask, first_state}
 use Rattle.pair_core.specs.State.{word_count}
-use Rattle.pair_core.specs.declared.view.SendSide.{SendSide}
-use Rattle.pair_core.specs.declared.view.RecvSide.{RecvSide}
 use Rattle.pair_rule.specs.Buf.{Buf, buf}
 use Rattle.pair_rule.specs.Rule.{cell_length}
 use Rattle.pair_rule.specs.Views.{told}
 use Rattle.pair_rule.specs.declared.view.View.{View}
 use Rattle.pair_rule.specs.declared.view.Standing.TheVariants.{Seated, Told, Spent, Closed}
 
--- the word with a number before the first step: claim words, the release word, take words, return words, and the piece words of
--- each place
+-- the word with a number before the first step: claim words, the release word, take words, return words, and the
+-- piece words of each place
 abbrev pub first_at : Shape → ℕ → ℕ
 first_at g n =
     if nat_lt n (claim_words g) then word_of 0 true (part_mask g.send_parts n) else (
     if nat_lt n (claim_words g + 1) then word_of 0 false 0 else (
-    if nat_lt n (claim_words g + 1 + take_words g) then word_of 0 false (part_mask g.recv_parts (n - (claim_words g + 1))) else (
-    if nat_lt n (claim_words g + 1 + 2 * take_words g) then word_of 0 false (part_mask g.recv_parts (n - (claim_words g + 1 + take_words g))) else
+    if nat_lt n (claim_words g + 1 + take_words g)
+    then word_of 0 false (part_mask g.recv_parts (n - (claim_words g + 1))) else (
+    if nat_lt n (claim_words g + 1 + 2 * take_words g)
+    then word_of 0 false (part_mask g.recv_parts (n - (claim_words g + 1 + take_words g))) else
     word_of 0 false (need g ((n - (claim_words g + 1 + 2 * take_words g)) % pieces g)))))
 
 -- the words before the first step, in order
@@ -84,12 +85,18 @@ abbrev pub note : View → View
 note d = record (fresh d.geometry 0 d.seen) { standing = Told }
 
 -- a view that was joined into another
+abbrev pub no_shape : Shape
+no_shape = record { send_parts = 0; send_bytes = 0; recv_parts = 0; recv_bytes = 0; grain = 0; depth = 0 }
+
 abbrev pub spent : View
-spent = record (fresh record { send_parts = 0; send_bytes = 0; recv_parts = 0; recv_bytes = 0; grain = 0; depth = 0 } 0 []) { standing = Spent }
+spent = record (fresh no_shape 0 []) { standing = Spent }
 
 -- the send side takes in a marker, and the receive side a watcher
 abbrev pub with_marker_back : View → View → View
-with_marker_back d e = record (told d e) { send = record d.send { markers = d.send.markers - 1 }; marks = e.marks ++ d.marks }
+with_marker_back d e = record (told d e) {
+  send = record d.send { markers = d.send.markers - 1 };
+  marks = e.marks ++ d.marks;
+}
 
 abbrev pub with_watcher_back : View → View → View
 with_watcher_back d e = record (told d e) { recv = record d.recv { watchers = d.recv.watchers - 1 } }

@@ -7,3 +7,4 @@ pub mod Steps
 pub mod Seats
 pub mod Marking
 pub mod Parts
+pub mod Laws

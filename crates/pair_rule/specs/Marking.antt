@@ -1,12 +1,13 @@
 -- The steps of a marking seat that move slots: a claim that wins, and a lay.
-use Rattle.std.specs.Prelude.{◌≡◌, ◌≢◌, ℕ, ◌+◌, ◌-◌, ◌/◌, ◌%◌, ◌^◌, ◌≤◌, List, ◌++◌, length, map, drop, Contains, bit_or, Option, Some}
+use Rattle.std.specs.Prelude.{◌≡◌, ◌≢◌, ℕ, ◌+◌, ◌-◌, ◌/◌, ◌%◌, ◌^◌, ◌≤◌, List, ◌++◌, length, map, drop, Contains}
+use Rattle.std.specs.Prelude.{bit_or, Option, Some}
 use Rattle.gate_word.specs.Words.{round_in}
 use Rattle.gate_word.specs.Order.{IsLater}
 use Rattle.part_geometry.specs.Shape.{Shape}
 use Rattle.part_geometry.specs.Pieces.{first_part}
 use Rattle.atomic_table.specs.Table.{Step}
 use Rattle.part_tables.specs.Parts.{first_sent, first_shared, after_shared}
-use Rattle.pair_core.specs.Names.{Claim}
+use Rattle.pair_core.specs.Names.{Claim, Piece}
 use Rattle.pair_core.specs.Reading.{laid}
 use Rattle.pair_core.specs.Steps.{mark}
 use Rattle.pair_core.specs.Moves.{MayLay}
@@ -39,8 +40,8 @@ shared_slot g k p i = slot_number g (k % g.depth) (first_shared g p i)
 abbrev pub with_part : Shape → ℕ → ℕ → ℕ → ℕ
 with_part g i p w = bit_or w (2 ^ (p - first_part g i))
 
--- A claim of partition p won, in the round of the claim word that was shown. The buffers of the partition's cells at the
--- round's place are out with the seat.
+-- A claim of partition p won, in the round of the claim word that was shown. The buffers of the partition's cells at
+-- the round's place are out with the seat.
 pub record HasWon (shown p : ℕ) (b : List ℕ) (old new : MarkHeld) : Type 0 where
   pub table : new.table ≡ old.table
   pub view : new.view ≡ view.claimed (round_in shown) p b (bit_or shown (2 ^ (p % 32))) old.view
@@ -85,11 +86,13 @@ tries p b st me found me' =
     × (found ≢ st.first → me' ≡ (view.saw (Claim (p / 32)) found me.0, me.1))
     × IsLater st.first found
 
--- what the lay tells: it found the piece's word in the round of the claim, and without the partition
+-- what the lay tells: it found the piece's word in the round of the claim, and without the partition; it is the one
+-- that the seat has last seen, or later
 abbrev pub lays : ℕ → ℕ → Step (Option Buf) → Seat → ℕ → Seat → Type 0
 lays p i st me found me' = (x : Pending) → me.0.pending ≡ Some x
     → (me' ≡ (view.laid i x (with_part me.0.geometry i p found) me.0, drop (shared_count me.0.geometry p i) me.1))
     × (round_in found ≡ x.round) × (laid me.0.geometry found i p ≡ 0)
+    × IsLater (view.seen me.0 (Piece (x.round % me.0.geometry.depth) i)) found
 
 -- the number in the seat's list of the slot of cell c at place d
 abbrev pub spot : MarkHeld → ℕ → ℕ → ℕ

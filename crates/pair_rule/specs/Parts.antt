@@ -1,6 +1,7 @@
 -- What the steps on receive partitions find, and do to the lanes and slots of the seat that makes them.
 use Rattle.std.specs.Prelude.{ℕ, zero, suc, ◌+◌, ◌-◌, ◌*◌, ◌/◌, ◌%◌, ◌^◌, ◌<◌, true, false, bit_or}
-use Rattle.std.specs.Prelude.{◌≡◌, slice_index, slice_set, List, [], ◌∷◌, ◌++◌, map, take, drop, length, replicate, Option, Some, None}
+use Rattle.std.specs.Prelude.{◌≡◌, slice_index, slice_set, List, [], ◌∷◌, ◌++◌, map, take, drop, length, replicate}
+use Rattle.std.specs.Prelude.{Option, Some, None}
 use Rattle.std.specs.List.{range_with_len, flat_map}
 use mathlib.Core.Option.{some}
 use lib.ListN.{get_elem?}
@@ -100,10 +101,10 @@ pub record HasTaken (may : ℕ → ℕ → ℕ → Type 0) (q found : ℕ) (old 
   pub with : List ℕ
   pub are : AreTaken may old.view q bufs with
   pub seat : new ≡ record old {
-      view = taken_from q with found old.view;
-      lanes = flagged true true q old.lanes;
-      slots = spliced (spot old.lanes q) (own_slot old.view q) (map Some bufs) old.slots;
-    }
+    view = taken_from q with found old.view;
+    lanes = flagged true true q old.lanes;
+    slots = spliced (spot old.lanes q) (own_slot old.view q) (map Some bufs) old.slots;
+  }
 
 -- the receive seat after it gave partition q back
 abbrev pub returned : ℕ → ℕ → RecvHeld → RecvHeld

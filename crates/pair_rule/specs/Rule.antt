@@ -1,5 +1,6 @@
 -- The rule of the table: it shows a sound state of the core, and its buffers have the bytes of the marks.
-use Rattle.std.specs.Prelude.{◌≡◌, ◌≢◌, ◌⊎◌, ℕ, ◌+◌, ◌-◌, ◌*◌, ◌%◌, ◌<◌, ◌≤◌, Bool, true, false, List, [], ◌∷◌, length, slice_index, Contains, Option, Some, None, if◌then◌else◌}
+use Rattle.std.specs.Prelude.{◌≡◌, ◌≢◌, ◌⊎◌, ℕ, ◌+◌, ◌-◌, ◌*◌, ◌<◌, ◌≤◌, Bool, true, false, List, [], ◌∷◌, length}
+use Rattle.std.specs.Prelude.{slice_index, Contains, Option, Some, None, if◌then◌else◌}
 use mathlib.Core.Option.{some, none}
 use mathlib.Core.Option as maybe
 use lib.ListN.{get_elem?}
@@ -16,7 +17,6 @@ use Rattle.pair_core.specs.Sound.{Sound}
 use Rattle.pair_core.specs.State.{word_count, ListsWords}
 use Rattle.pair_core.specs.Facts.{piece_word, IsKept}
 use Rattle.pair_core.specs.declared.view.Mark.{Mark}
-use Rattle.pair_core.specs.declared.view.RecvSide.{RecvSide}
 use Rattle.pair_core.specs.declared.view.Life.TheVariants.{Blank, Live}
 use Rattle.pair_rule.specs.Buf.{Buf}
 use Rattle.pair_rule.specs.declared.view.View.{View}
@@ -47,11 +47,13 @@ Stands g c h (Out n) = h ≡ some none
 -- side once it is made.
 abbrev pub Given : Bool → ℕ → ℕ → ℕ → Type 0
 Given alone markers watchers n =
-    (n ≡ 0) ⊎ ((n ≡ 1) × (alone ≡ false)) ⊎ (IsMarker n × (n < 2 + 2 * markers)) ⊎ (IsWatcher n × (n < 3 + 2 * watchers))
+    (n ≡ 0) ⊎ ((n ≡ 1) × (alone ≡ false)) ⊎ (IsMarker n × (n < 2 + 2 * markers))
+    ⊎ (IsWatcher n × (n < 3 + 2 * watchers))
 
 -- The view of the table's seat i shows the core's view of its number, part by part. `seat` is the table's seat of each
 -- number, so no two views have one.
-pub record Agrees (g : Shape) (core : Shown) (alone : Bool) (markers watchers : ℕ) (seat : ℕ → ℕ) (i : ℕ) (d : View) : Type 0 where
+pub record Agrees (g : Shape) (core : Shown) (alone : Bool) (markers watchers : ℕ) (seat : ℕ
+    → ℕ) (i : ℕ) (d : View) : Type 0 where
   pub geometry : d.geometry ≡ g
   pub seat_is : seat d.number ≡ i
   pub given : Given alone markers watchers d.number
@@ -98,8 +100,8 @@ module _ {T : Type 0} (may : T → ℕ → ℕ → ℕ → Type 0) where
     pub bytes_are : m.with ≡ bytes m.round m.partition
     pub may_be : MayMark key m.round m.partition m.with
 
-  -- `core` is the state that is shown, `seat` the table's seat of each number given so far, and `bytes` what was marked by
-  -- each partition in each round.
+  -- `core` is the state that is shown, `seat` the table's seat of each number given so far, and `bytes` what was
+  -- marked by each partition in each round.
   pub record Rule (key : Key T) (s : At) : Type 0 where
     pub core : Shown
     pub seat : ℕ → ℕ
@@ -115,10 +117,12 @@ module _ {T : Type 0} (may : T → ℕ → ℕ → ℕ → Type 0) where
     pub slots : (d c : ℕ) → d < key.geometry.depth → c < cells key.geometry
         → Stands key.geometry c (get_elem? s.homes (slot_number key.geometry d c)) (core.slot d c)
     -- a buffer that is home and has the round of its piece's word has the bytes marked in that round
-    pub kept : (d c : ℕ) (b : Buf) → d < key.geometry.depth → c < cells key.geometry → get_elem? s.homes (slot_number key.geometry d c) ≡ some (some (Some b))
+    pub kept : (d c : ℕ) (b : Buf) → d < key.geometry.depth → c < cells key.geometry
+        → get_elem? s.homes (slot_number key.geometry d c) ≡ some (some (Some b))
         → IsKept key.geometry core d c → 1 ≤ round_in (piece_word key.geometry core d c)
         → b.bytes ≡ cell_bytes key.geometry (bytes (round_in (piece_word key.geometry core d c))) c
-    pub seats : (i : ℕ) (d : View) → get_elem? s.views i ≡ some d → d.standing ≡ Seated → Agrees key.geometry core alone markers watchers seat i d
+    pub seats : (i : ℕ) (d : View) → get_elem? s.views i ≡ some d → d.standing ≡ Seated
+        → Agrees key.geometry core alone markers watchers seat i d
     pub notes : (i : ℕ) (d : View) → get_elem? s.views i ≡ some d → d.standing ≡ Told → Tells key.geometry core d
     pub running : (i : ℕ) (d : View) → get_elem? s.views i ≡ some d → d.standing ≢ Closed
     pub first : alone ≡ true → IsFirst key.geometry core
@@ -128,7 +132,8 @@ module _ {T : Type 0} (may : T → ℕ → ℕ → ℕ → Type 0) where
     pub here : (n : ℕ) → core.life n ≡ Live → (n ≡ 1 → alone ≡ false)
         → (d : View) × (get_elem? s.views (seat n) ≡ some d) × (d.standing ≡ Seated) × (d.number ≡ n)
     pub marks : (n : ℕ) (m : Mark (List ℕ)) → Contains (core.marks n) m → IsMarked key bytes m
-    pub takes : (m : Mark (List ℕ)) → Contains core.takes m → m.with ≡ part_bytes key.geometry (bytes m.round) m.partition
+    pub takes : (m : Mark (List ℕ)) → Contains core.takes m
+        → m.with ≡ part_bytes key.geometry (bytes m.round) m.partition
 
 -- the bytes of the mark of a round and a partition in a list of marks
 abbrev pub bytes_of : List (Mark (List ℕ)) → ℕ → ℕ → List ℕ
@@ -136,8 +141,8 @@ bytes_of [] k p = []
 bytes_of (m ∷ ms) k p = if is_mark k p m then m.with else bytes_of ms k p
 
 module _ {T : Type 0} (may : T → ℕ → ℕ → ℕ → Type 0) where
-  -- What the view of a closed pair says: each partition of each round up to the sender's was marked once, with bytes that may be, and
-  -- each one of each round up to the receiver's was taken once, with the bytes that were marked there.
+  -- What the view of a closed pair says: each partition of each round up to the sender's was marked once, with bytes
+  -- that may be, and each one of each round up to the receiver's was taken once, with the bytes that were marked there.
   pub record IsWhole (key : Key T) (d : View) : Type 0 where
     pub behind : d.recv.round ≤ d.send.round
     pub all_marked : (k p : ℕ) → 1 ≤ k → k ≤ d.send.round → p < key.geometry.send_parts → times k p d.marks ≡ 1

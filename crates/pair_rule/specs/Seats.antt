@@ -1,6 +1,6 @@
 -- A pair and its seats, as callers see them.
 use Rattle.part_geometry.specs.declared.TheConstants.{LAST_ROUND}
-use Rattle.std.specs.Prelude.{◌≡◌, ℕ, ◌+◌, ◌-◌, ◌*◌, ◌/◌, ◌%◌, ◌<◌, ◌≤◌, Bool, true, false, List, [], ◌∷◌, length, map, Option, Some, None}
+use Rattle.std.specs.Prelude.{◌≡◌, ℕ, ◌+◌, ◌-◌, ◌/◌, ◌<◌, ◌≤◌, Bool, true, false, List, [], ◌∷◌, length, map, Option}
 use mathlib.Core.Option.{some}
 use lib.ListN.{get_elem?}
 use Rattle.std.specs.List.{range_with_len}
@@ -61,8 +61,8 @@ pub record Room : Type 0 where
   pub bufs : List Buf
   pub room : ℕ
 
--- The receive seat has a lane for each receive partition, and the slots of the lanes that are out, in their order; and an empty
--- vector with room for the buffers of each partition, where it hasn't been taken out.
+-- The receive seat has a lane for each receive partition, and the slots of the lanes that are out, in their order;
+-- and an empty vector with room for the buffers of each partition, where it hasn't been taken out.
 pub record RecvHeld : Type 0 where
   pub table : TableId
   pub view : View

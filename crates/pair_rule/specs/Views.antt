@@ -1,17 +1,14 @@
--- What a step makes of the view of the seat that makes it. It mirrors what the core's step makes of its state, part by part.
-use Rattle.std.specs.Prelude.{◌≡◌, ℕ, ◌+◌, ◌-◌, ◌*◌, ◌/◌, ◌%◌, ◌^◌, Bool, true, false, ◌==◌, ◌&&◌, if◌then◌else◌, nat_lt, List, [], ◌∷◌, ◌++◌, map, slice_index, slice_set, bit_or, Option, Some, None}
+-- What a step makes of the view of the seat that makes it. It mirrors what the core's step makes of its state, part
+-- by part.
+use Rattle.std.specs.Prelude.{ℕ, ◌+◌, ◌*◌, ◌/◌, ◌%◌, Bool, ◌==◌, ◌&&◌, if◌then◌else◌, nat_lt, List, [], ◌∷◌, map}
+use Rattle.std.specs.Prelude.{slice_index, slice_set, Some}
 use Rattle.std.specs.List.{range_with_len}
 use Rattle.gate_word.specs.Order.{join_of}
-use Rattle.part_geometry.specs.Shape.{Shape}
-use Rattle.part_geometry.specs.Pieces.{first_part}
 use Rattle.pair_core.specs.Words.{empty}
 use Rattle.pair_core.specs.Names.{Name, Claim, Release, Take, Return, Piece, number, claim_words, take_words}
 use Rattle.pair_core.specs.Steps.{mark, left_of}
 use Rattle.pair_core.specs.State.{word_count}
-use Rattle.pair_core.specs.declared.view.Mark.{Mark}
 use Rattle.pair_core.specs.declared.view.Pending.{Pending}
-use Rattle.pair_core.specs.declared.view.SendSide.{SendSide}
-use Rattle.pair_core.specs.declared.view.RecvSide.{RecvSide}
 use Rattle.pair_rule.specs.declared.view.View.{View}
 
 -- the last seen word of a name, and how often the seat has stepped on it
@@ -23,7 +20,10 @@ looks d x = slice_index d.looks (number d.geometry x)
 
 -- the seat stepped on the word x, and saw w as the step left it
 abbrev pub saw : Name → ℕ → View → View
-saw x w d = record d { seen = slice_set d.seen (number d.geometry x) w; looks = slice_set d.looks (number d.geometry x) (looks d x + 1) }
+saw x w d = record d {
+  seen = slice_set d.seen (number d.geometry x) w;
+  looks = slice_set d.looks (number d.geometry x) (looks d x + 1);
+}
 
 -- the send side stores piece word i, empty for round k; it stores and shuts claim word c
 abbrev pub stored_piece : ℕ → ℕ → View → View
@@ -47,7 +47,8 @@ claimed k p b w d = record (saw (Claim (p / 32)) w d) {
 abbrev pub laid : ℕ → Pending → ℕ → View → View
 laid i x w d = record (saw (Piece (x.round % d.geometry.depth) i) w d) { pending = left_of d.geometry i x }
 
--- the receive side stores return word t, empty for round k, and take word t; takes partition q with these bytes; releases
+-- the receive side stores return word t, empty for round k, and take word t; takes partition q with these bytes;
+-- releases
 abbrev pub stored_return : ℕ → ℕ → View → View
 stored_return k t d = record (saw (Return t) (empty k) d) {
   recv = record { round = k; returns = t + 1; takes = 0; released = 0; watchers = d.recv.watchers };
@@ -67,7 +68,9 @@ released d = record (saw Release (empty d.recv.round) d) { recv = record d.recv 
 
 -- the receive side alone writes the take and the return words, and keeps what it has seen of them
 abbrev pub is_own : View → ℕ → Bool
-is_own d n = (d.number == 1) && (nat_lt (claim_words d.geometry) n && nat_lt n (claim_words d.geometry + 1 + 2 * take_words d.geometry))
+is_own d n =
+    (d.number == 1)
+    && (nat_lt (claim_words d.geometry) n && nat_lt n (claim_words d.geometry + 1 + 2 * take_words d.geometry))
 
 -- the word with a number that d has seen once it is told what e has seen: of any word that isn't its own, the join
 abbrev pub told_word : View → View → ℕ → ℕ

@@ -54,7 +54,13 @@ impl Model for Closed {
 
     ghost Value = { ClosedOf };
 
-    ghost view = { λ c. record { geometry = c.geometry; sent = c.sent; received = c.received; pieces_out = c.pieces_out; rounds = rounds_in c.record.views } };
+    ghost view = { λ c. record {
+      geometry = c.geometry;
+      sent = c.sent;
+      received = c.received;
+      pieces_out = c.pieces_out;
+      rounds = rounds_in c.record.views;
+    } };
 }
 
 impl Closed {
@@ -101,8 +107,8 @@ fn release(mut closed: atomic_table::Closed<Option<CellBuf>, Global>)
 
 impl<C: Content> Pair<C> {
     /// Closes a pair whose sides are idle, and whose markers and watchers were all joined. Each partition of each round
-    /// sent was marked once, with bytes that may be, and each receive partition of each round received was taken once, with
-    /// the bytes that were marked there; what was closed has the bytes of each round. It takes no memory.
+    /// sent was marked once, with bytes that may be, and each receive partition of each round received was taken
+    /// once, with the bytes that were marked there; what was closed has the bytes of each round. It takes no memory.
     pub fn close(self, send: SendSeat<C>, recv: RecvSeat<C>) -> Closed
         requires send { IsOf send.table send.view self }
         requires recv { recv.table ≡ send.table }
@@ -116,7 +122,8 @@ impl<C: Content> Pair<C> {
           rounds = rounds_of self.key.geometry send.view.send.round send.view.marks;
         } }
         ensures whole { IsWhole C.may self.key (closed send.view recv.view) }
-        ensures bytes { (k p : ℕ) → 1 ≤ k → k ≤ send.view.send.round → p < self.key.geometry.send_parts → MayMark C.may self.key k p (bytes_of send.view.marks k p) }
+        ensures bytes { (k p : ℕ) → 1 ≤ k → k ≤ send.view.send.round → p < self.key.geometry.send_parts
+            → MayMark C.may self.key k p (bytes_of send.view.marks k p) }
     {
         let (table, tables) = self.into_parts();
         let mut place = send.into_place();

@@ -1,7 +1,8 @@
 //! Which bytes a mark may put where.
 
-/// What the marks of a pair may say. `may` says of a tag, a round, a place of the message and a byte that a mark may put
-/// that byte there in that round. Each pair has a tag, which is chosen at its creation and which contracts alone see.
+/// What the marks of a pair may say. `may` says of a tag, a round, a place of the message and a byte that a mark may
+/// put that byte there in that round. Each pair has a tag, which is chosen at its creation and which contracts alone
+/// see.
 pub trait Content {
     ghost use Rattle.std.specs.Prelude.{ℕ};
 

@@ -66,6 +66,7 @@ impl<C: Content> Pair<C> {
         };
         let recv = RecvSeat {
             seat: recv,
+            round: 0,
             lanes,
             shelves,
             content: PhantomData,

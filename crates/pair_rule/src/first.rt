@@ -1,5 +1,6 @@
 //! The words and the buffers before the first step.
 
+ghost use Rattle.part_geometry.specs.declared.TheConstants.{MAX_PARTS};
 ghost use Rattle.std.specs.Prelude.{◌≡◌, ◌+◌, ◌*◌, ◌-◌, ◌%◌, ◌<◌, ◌≤◌, ◌^◌, true, IfOk, replicate};
 ghost use Rattle.part_geometry.specs.Cells.{cells};
 ghost use Rattle.pair_core.specs.Moves.{part_mask};
@@ -24,7 +25,7 @@ fn low_bits(n: u32) -> u32
 
 /// A bit for each partition of word `c`.
 fn part_bits(parts: u32, c: usize) -> u32
-    requires few { parts ≤ 1024 }
+    requires few { parts ≤ MAX_PARTS }
     requires some { 32 * c < parts }
     ensures { result ≡ part_mask parts c }
 {
@@ -76,6 +77,7 @@ fn cell_buf(alloc: Global, tables: &Tables, c: usize) -> Result<CellBuf, AllocEr
     requires { c < cells tables.now }
     ensures { IfOk result (λ b. b ≡ buf 0 (replicate (cell_length tables.now c) 0)) }
 {
+    // The geometry's limits, for the proof.
     let _geometry = tables.geometry();
     let cell = tables.cell(c);
     let bytes = Vec::from_elem(alloc, 0u8, (cell.end - cell.start) as usize)?;

@@ -4,7 +4,7 @@ ghost use Rattle.std.specs.Prelude.{◌≡◌, ◌≢◌, ◌<◌, ◌/◌, ◌%
 ghost use Rattle.gate_word.specs.Words.{round_in};
 ghost use Rattle.gate_word.specs.Order.{IsLater};
 ghost use Rattle.part_geometry.specs.Cells.{cells};
-ghost use Rattle.pair_core.specs.Names.{Claim};
+ghost use Rattle.pair_core.specs.Names.{Claim, Piece};
 ghost use Rattle.pair_core.specs.Reading.{laid};
 ghost use Rattle.pair_core.specs.Moves.{TryClaim};
 ghost use Rattle.pair_core.specs.declared.view.Pending.{Pending};
@@ -47,6 +47,7 @@ impl<C: Content> Pair<C> {
         ensures seat { (seat.new.table_id ≡ seat.old.table_id) × (seat.new.id ≡ seat.old.id) }
         ensures step { tries partition bytes.now (step 0 0 shown 0 none) seat.old.me result seat.new.me }
     {
+        // Only the proof speaks of the bytes here.
         let _ = bytes;
         let index = claim_word(&self.tables, (partition / 32) as usize);
         self.table
@@ -65,7 +66,8 @@ impl<C: Content> Pair<C> {
         requires bytes { MayMark C.may self.now.key (round_in shown) partition bytes.now }
         requires none { seat.old.out ≡ [] }
         ensures won { result ≡ shown → HasWon shown partition bytes.now seat.old seat.new }
-        ensures lost { result ≢ shown → seat.new ≡ record seat.old { view = saw (Claim (partition / 32)) result seat.old.view } }
+        ensures lost { result ≢ shown
+            → seat.new ≡ record seat.old { view = saw (Claim (partition / 32)) result seat.old.view } }
         ensures later { IsLater shown result }
     {
         let found = self.try_claim_as::<Brand>(&mut seat.seat, shown, partition, bytes);
@@ -88,8 +90,10 @@ impl<C: Content> Pair<C> {
         requires said { (partition ≡ X.one) × (piece ≡ X.two) }
         requires pair { IsOf seat.old.table_id seat.old.me.0 self.now }
         requires live { seat.old.me.0.standing ≡ Seated }
-        requires filled { IsFilled round partition piece seat.old.me.0 (shared_slot seat.old.me.0.geometry round partition piece) (values seat.old.me.1) }
-        requires row { seat.old.me.1 ≡ row (shared_slot seat.old.me.0.geometry round partition piece) (values seat.old.me.1) }
+        requires filled { IsFilled round partition piece seat.old.me.0
+            (shared_slot seat.old.me.0.geometry round partition piece) (values seat.old.me.1) }
+        requires row { seat.old.me.1
+            ≡ row (shared_slot seat.old.me.0.geometry round partition piece) (values seat.old.me.1) }
         ensures seat { (seat.new.table_id ≡ seat.old.table_id) × (seat.new.id ≡ seat.old.id) }
         ensures step { lays partition piece (step 0 0 0 0 none) seat.old.me result seat.new.me }
     {
@@ -100,13 +104,16 @@ impl<C: Content> Pair<C> {
     }
 
     /// A marker lays its pending claim of a partition into a piece, and answers the word of the piece that it found,
-    /// which has the claim's round and lacks the partition. The buffers of the cells that both share go home. They are
-    /// the first of those that are out, and each is filled with its part of the mark's bytes.
+    /// which has the claim's round and lacks the partition; it is the word last seen, or a later one. The buffers of
+    /// the cells that both share go home. They are the first of those that are out, and each is filled with its part
+    /// of the mark's bytes.
     pub fn mark_piece(&self, seat: &mut MarkSeat<C>, round: u32, partition: u32, piece: u32) -> u64
         requires pair { IsOf seat.old.table seat.old.view self.now }
         requires filled { IsFilled round partition piece seat.old.view seat.old.first seat.old.out }
-        ensures step { (x : Pending) → seat.old.view.pending ≡ Some x → seat.new ≡ laid_at partition piece x result seat.old }
+        ensures step { (x : Pending) → seat.old.view.pending ≡ Some x
+            → seat.new ≡ laid_at partition piece x result seat.old }
         ensures found { (round_in result ≡ round) × (laid seat.old.view.geometry result piece partition ≡ 0) }
+        ensures later { IsLater (seen seat.old.view (Piece (round % seat.old.view.geometry.depth) piece)) result }
     {
         let place = self.tables.place(round);
         let (first, after) = self.tables.shared(partition as usize, piece as usize);
@@ -160,7 +167,9 @@ impl<C: Content> Pair<C> {
         requires cell { cell < cells seat.old.view.geometry }
         requires held { HasOut seat.old place cell None }
         requires length { length buf.bytes ≡ cell_length seat.old.view.geometry cell }
-        ensures step { seat.new ≡ record seat.old { out = slice_set seat.old.out (spot seat.old place cell) (Some buf) } }
+        ensures step { seat.new ≡ record seat.old {
+          out = slice_set seat.old.out (spot seat.old place cell) (Some buf);
+        } }
     {
         let None = self.swap_marked(seat, place, cell, Some(buf)) else {
             unreachable!()

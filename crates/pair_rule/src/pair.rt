@@ -16,9 +16,9 @@ use std::marker::Model;
 
 pub(crate) type Top<C> = Table<Option<CellBuf>, View, Key<<C as Content>::Tag>, Ruled<C>, Global>;
 
-/// A partitioned send and the receive that it is paired with, for many threads (MPI 4.0, 4.2): atomic words and the buffers
-/// of the cells, which are read and written through the seats of the pair. It may be shared by reference. Contracts see
-/// which table it is, its geometry and its tag.
+/// A partitioned send and the receive that it is paired with, for many threads (MPI 4.0, 4.2): atomic words and the
+/// buffers of the cells, which are read and written through the seats of the pair. It may be shared by reference.
+/// Contracts see which table it is, its geometry and its tag.
 pub struct Pair<C: Content> {
     pub(crate) table: Top<C>,
     pub(crate) tables: Tables,
@@ -58,7 +58,8 @@ impl<C: Content> Pair<C> {
 
     /// Its parts.
     pub(crate) fn into_parts(self) -> (Top<C>, Tables)
-        ensures parts { (result.0.shared.table_id ≡ self.table) × (result.0.shared.key ≡ self.key) × (result.1 ≡ self.key.geometry) }
+        ensures parts { (result.0.shared.table_id ≡ self.table) × (result.0.shared.key ≡ self.key)
+            × (result.1 ≡ self.key.geometry) }
         ensures limits { IsShape self.key.geometry × (self.table.words ≡ word_count self.key.geometry) }
     {
         let Pair { table, tables } = self;

@@ -15,8 +15,7 @@ use crate::plays::Numbers;
 use crate::recv_plays::{Releases, StoresReturn, StoresTake};
 use crate::rule::Place;
 use crate::seats::RecvSeat;
-use crate::words::{release_word, return_word, take_word};
-use gate_word::pack;
+use crate::words::{empty_word, release_word, return_word, take_word};
 use slot_rows::{Lane, set_flags};
 use std::marker::Brand;
 
@@ -44,7 +43,7 @@ impl<C: Content> Pair<C> {
         let number = return_word(&self.tables, word as usize);
         self.table
             .shared
-            .store::<StoresReturn<X>>(seat, number, pack(round, false, 0));
+            .store::<StoresReturn<X>>(seat, number, empty_word(round));
     }
 
     fn store_take_as<X: Numbers>(&self, seat: &mut Place, round: u32, word: u32)
@@ -59,7 +58,7 @@ impl<C: Content> Pair<C> {
         let number = take_word(&self.tables, word as usize);
         self.table
             .shared
-            .store::<StoresTake<X>>(seat, number, pack(round, false, 0));
+            .store::<StoresTake<X>>(seat, number, empty_word(round));
     }
 
     fn store_release_in(&self, seat: &mut Place, round: u32)
@@ -73,7 +72,7 @@ impl<C: Content> Pair<C> {
         let number = release_word(&self.tables);
         self.table
             .shared
-            .store::<Releases>(seat, number, pack(round, false, 0));
+            .store::<Releases>(seat, number, empty_word(round));
     }
 
     /// The receive side stores a return word, empty for the round: word 0 where the side is idle and the round is its
@@ -84,6 +83,7 @@ impl<C: Content> Pair<C> {
         ensures step { seat.new ≡ record seat.old { view = stored_return round word seat.old.view } }
     {
         self.store_return_as::<Brand>(&mut seat.seat, round, word);
+        seat.round = round;
     }
 
     /// The receive side stores a take word, empty for its round, where all return words and the take words before it

@@ -29,8 +29,8 @@ impl<C: Content> Model for SendSeat<C> {
         × (s.seat.me.0.alone ≡ false) × IsSendView s.seat.me.0 × (s.round ≡ s.seat.me.0.send.round) };
 }
 
-/// The seat of a thread that marks. While a claim of it pends, slots of the claimed partition are out with it: `count` of
-/// them, numbered from `first` on.
+/// The seat of a thread that marks. While a claim of it pends, slots of the claimed partition are out with it:
+/// `count` of them, numbered from `first` on.
 pub struct MarkSeat<C: Content> {
     pub(crate) seat: Place,
     pub(crate) first: usize,
@@ -47,7 +47,12 @@ impl<C: Content> Model for MarkSeat<C> {
 
     ghost Value = { MarkHeld };
 
-    ghost view = { λ s. record { table = s.seat.table_id; view = s.seat.me.0; first = s.first; out = values s.seat.me.1 } };
+    ghost view = { λ s. record {
+      table = s.seat.table_id;
+      view = s.seat.me.0;
+      first = s.first;
+      out = values s.seat.me.1;
+    } };
 
     ghost invariant = { λ s. (s.seat.me.0.standing ≡ Seated) × IsMarker s.seat.me.0.number
         × (s.seat.me.1 ≡ row s.first (values s.seat.me.1)) × (s.count ≡ length s.seat.me.1) };
@@ -135,10 +140,11 @@ impl Shelf {
     }
 }
 
-/// The seat of the receive side, the only one that takes partitions, gives them back and releases rounds. It keeps an empty
-/// shelf with room for the buffers of each receive partition, while the partition isn't out.
+/// The seat of the receive side, the only one that takes partitions, gives them back and releases rounds. It keeps an
+/// empty shelf with room for the buffers of each receive partition, while the partition isn't out.
 pub struct RecvSeat<C: Content> {
     pub(crate) seat: Place,
+    pub(crate) round: u32,
     pub(crate) lanes: Vec<Lane>,
     pub(crate) shelves: Vec<Option<Shelf>>,
     pub(crate) content: PhantomData<C>,
@@ -151,10 +157,17 @@ impl<C: Content> Model for RecvSeat<C> {
 
     ghost Value = { RecvHeld };
 
-    ghost view = { λ s. record { table = s.seat.table_id; view = s.seat.me.0; lanes = s.lanes.items; slots = s.seat.me.1; shelves = s.shelves.items } };
+    ghost view = { λ s. record {
+      table = s.seat.table_id;
+      view = s.seat.me.0;
+      lanes = s.lanes.items;
+      slots = s.seat.me.1;
+      shelves = s.shelves.items;
+    } };
 
-    ghost invariant = { λ s. (s.seat.me.0.standing ≡ Seated) × (s.seat.me.0.number ≡ 1) × AreLanes s.seat.me.0 (length s.seat.me.1) s.lanes.items
-        × (length s.shelves.items ≡ s.seat.me.0.geometry.recv_parts) };
+    ghost invariant = { λ s. (s.seat.me.0.standing ≡ Seated) × (s.seat.me.0.number ≡ 1)
+        × AreLanes s.seat.me.0 (length s.seat.me.1) s.lanes.items
+        × (length s.shelves.items ≡ s.seat.me.0.geometry.recv_parts) × (s.round ≡ s.seat.me.0.recv.round) };
 }
 
 /// What a seat had seen when it made the note. It is no seat, makes no step, and may be dropped.
@@ -238,7 +251,25 @@ impl<C: Content> WatchSeat<C> {
 
 impl<C: Content> RecvSeat<C> {
     ghost use Rattle.pair_core.specs.Moves.{IsRecvIdle};
+    ghost use Rattle.pair_rule.specs.Seats.{AreLanes};
     ghost use Rattle.pair_rule.specs.declared.view.Standing.TheVariants.{Seated};
+
+    /// The receive side's round, 0 before the first.
+    pub fn round(&self) -> u32
+        ensures { result ≡ self.now.view.recv.round }
+    {
+        self.round
+    }
+
+    /// A lane for each receive partition: whether it was taken in the side's round, and whether its slots are out.
+    pub fn lanes(&self) -> &[Lane]
+        ensures value { result.now ≡ self.now.lanes }
+        ensures number { self.now.view.number ≡ 1 }
+        ensures kept { AreLanes self.now.view (length self.now.slots) self.now.lanes }
+        ensures shelves { length self.now.shelves ≡ self.now.view.geometry.recv_parts }
+    {
+        &self.lanes
+    }
 
     /// The seat of the table alone.
     pub(crate) fn into_place(self) -> Place
@@ -248,6 +279,7 @@ impl<C: Content> RecvSeat<C> {
     {
         let RecvSeat {
             seat,
+            round: _,
             lanes: _,
             shelves: _,
             content: _,
@@ -303,6 +335,7 @@ impl<C: Content> Drop for RecvSeat<C> {
     fn drop(self) {
         let RecvSeat {
             seat: _,
+            round: _,
             lanes: _,
             shelves: _,
             content: _,

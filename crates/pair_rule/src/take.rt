@@ -24,24 +24,18 @@ use crate::plays::Numbers;
 use crate::recv_plays::{Finds, ReturnsPart, TakesPart};
 use crate::rule::Place;
 use crate::seats::{RecvSeat, Shelf};
-use crate::words::{return_word, take_word};
+use crate::words::{one_bit, return_word, take_word};
 use part_tables::Tables;
 use slot_rows::{Lane, pass_from, pass_to, set_flags, swap_in, turn_times};
 use std::alloc::{AllocError, Global};
 use std::marker::Brand;
-
-/// The bit of a partition in its word.
-fn mask(part: u32) -> u64
-    ensures { result ≡ 2 ^ (part % 32) }
-{
-    1u64 << (part % 32)
-}
 
 /// The lanes of the receive side before its first round: each partition is taken, and none is out.
 pub(crate) fn lay_lanes(alloc: Global, tables: &Tables) -> Result<Vec<Lane>, AllocError>
     ensures { IfOk result (λ lanes. lanes.items ≡ first_lanes tables.now) }
 {
     let parts = tables.geometry().recv_parts();
+    // The tables' limits, for the proof.
     let _cells = tables.cells();
     let mut lanes = Vec::with_capacity(alloc, parts as usize)?;
     for q in 0..parts {
@@ -100,7 +94,7 @@ impl<C: Content> Pair<C> {
         ensures word { result ≡ seen seat.old.me.0 (Take (q / 32)) }
         ensures step { WereTaken X.may lanes.now q result seat.old.me seat.new.me }
     {
-        let mask = mask(q);
+        let mask = one_bit(q % 32);
         let at = q as usize;
         let (first, after) = self.tables.received(at);
         let word = take_word(&self.tables, at / 32);
@@ -122,7 +116,7 @@ impl<C: Content> Pair<C> {
         ensures word { result ≡ seen seat.old.me.0 (Return (q / 32)) }
         ensures step { seat.new.me ≡ brought_home lanes.now q result seat.old.me }
     {
-        let mask = mask(q);
+        let mask = one_bit(q % 32);
         let at = q as usize;
         let word = return_word(&self.tables, at / 32);
         pass_to(seat, lanes, at);

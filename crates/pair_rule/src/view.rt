@@ -20,8 +20,8 @@ pub enum Standing {
 pub struct View {
     /// What it is the view of.
     pub standing: Standing,
-    /// The seat's number in the core: 0 is the send side, 1 the receive side, the even numbers from 2 on are markers, the
-    /// odd ones from 3 on watchers, in the order in which they are made.
+    /// The seat's number in the core: 0 is the send side, 1 the receive side, the even numbers from 2 on are markers,
+    /// the odd ones from 3 on watchers, in the order in which they are made.
     pub number: u64,
     /// The pair's geometry.
     pub geometry: Geometry,

@@ -34,6 +34,7 @@ pub(crate) fn claim_word(tables: &Tables, c: usize) -> usize
     ensures value { result ≡ number tables.now (Claim c) }
     ensures inside { result < word_count tables.now }
 {
+    // The geometry's limits, for the proof.
     let _geometry = tables.geometry();
     c
 }
@@ -52,6 +53,7 @@ pub(crate) fn take_word(tables: &Tables, t: usize) -> usize
     ensures value { result ≡ number tables.now (Take t) }
     ensures inside { result < word_count tables.now }
 {
+    // The geometry's limits, for the proof.
     let _geometry = tables.geometry();
     claim_words(tables) + 1 + t
 }
@@ -72,6 +74,7 @@ pub(crate) fn piece_word(tables: &Tables, place: usize, i: usize) -> usize
     ensures value { result ≡ number tables.now (Piece place i) }
     ensures inside { result < word_count tables.now }
 {
+    // The geometry's limits, for the proof.
     let _geometry = tables.geometry();
     claim_words(tables) + 1 + 2 * take_words(tables) + (place * tables.pieces() + i)
 }
@@ -82,6 +85,7 @@ pub(crate) fn slot_of(tables: &Tables, place: usize, cell: usize) -> usize
     requires cell { cell ≤ cells tables.now }
     ensures { result ≡ slot_number tables.now place cell }
 {
+    // The geometry's limits, for the proof.
     let _geometry = tables.geometry();
     place * tables.cells() + cell
 }

@@ -1,5 +1,6 @@
 -- The states of a request: what it answers in each, and which state follows.
 use Rattle.std.specs.Prelude.{◌≡◌, ℕ, ◌+◌, ◌≤◌, ◌==◌, Bool, true, false, if◌then◌else◌, Result, Ok, Err, ⊤}
+use Rattle.part_geometry.specs.declared.TheConstants.{LAST_ROUND}
 use Rattle.part_geometry.specs.declared.answers.RecvTest.{RecvTest}
 use Rattle.part_geometry.specs.declared.answers.RecvTest.TheVariants as recv
 use Rattle.part_geometry.specs.declared.answers.StartFault.{StartFault}
@@ -43,7 +44,7 @@ refusal _ = Ok tt
 
 -- the round after round k
 abbrev pub next_round : ℕ → Result ℕ ReqFault
-next_round k = if k == 2147483647 then Err fault.RoundsSpent else Ok (k + 1)
+next_round k = if k == LAST_ROUND then Err fault.RoundsSpent else Ok (k + 1)
 
 -- what a start answers
 abbrev pub start_by_state : ReqState → Result ℕ ReqFault

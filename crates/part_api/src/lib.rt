@@ -4,9 +4,8 @@
 mod faults;
 mod plain;
 mod request;
-#[cfg(test)]
-mod tests;
 
 pub use faults::{FreeFault, Freed, ReqFault};
+pub use part_geometry::Side;
 pub use plain::{start_recv_plain, start_send_plain, test_recv_plain, test_send_plain};
-pub use request::{ReqState, Request, Side};
+pub use request::{ReqState, Request};

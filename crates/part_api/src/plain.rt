@@ -1,14 +1,14 @@
 //! Starts and tests of requests over a pair of one thread.
 
-ghost use Rattle.std.specs.Prelude.{◌≡◌, ◌↔◌, true, false, Ok, IsErr};
+ghost use Rattle.std.specs.Prelude.{◌≡◌, ◌≢◌, ◌↔◌, true, false, Ok, IsErr};
 ghost use Rattle.plain_pair.specs.Moves.{after_start_recv, after_start_send, after_test_recv, after_test_send, start_recv_answer, start_send_answer, test_recv_answer, test_send_answer};
 ghost use Rattle.plain_pair.specs.Sides.{recv_side, send_side};
 ghost use Rattle.plain_pair.specs.StandsFor.{Follows};
 ghost use Rattle.part_api.specs.States.{Agrees, is_idle, is_in_use, start_by_state, start_told, state_received, state_sent, state_started};
 
 use crate::faults::{Freed, ReqFault};
-use crate::request::{ReqState, Request, Side};
-use part_geometry::RecvTest;
+use crate::request::{ReqState, Request};
+use part_geometry::{RecvTest, Side};
 use plain_pair::{PlainPair, PlainSendTest};
 
 /// Starts the next round of a send (`MPI_Start`, MPI 4.0, 3.9), and answers its number. Refused where the request is
@@ -21,6 +21,7 @@ pub fn start_send_plain(req: &mut Request, pair: &mut PlainPair) -> Result<u32, 
     ensures agrees { Agrees req.new.state (send_side pair.new) }
     ensures call { is_in_use req.old.state ≡ true → Follows pair.old pair.new result (λ r. start_told (start_send_answer r)) after_start_send }
     ensures unused { is_in_use req.old.state ≡ false → pair.new ≡ pair.old }
+    ensures unchanged { IsErr result → pair.new ≡ pair.old }
     ensures shape { pair.new.shape ≡ pair.old.shape }
     ensures other_side { recv_side pair.new ≡ recv_side pair.old }
 {
@@ -37,6 +38,7 @@ pub fn start_recv_plain(req: &mut Request, pair: &mut PlainPair) -> Result<u32, 
     ensures agrees { Agrees req.new.state (recv_side pair.new) }
     ensures call { is_in_use req.old.state ≡ true → Follows pair.old pair.new result (λ r. start_told (start_recv_answer r)) after_start_recv }
     ensures unused { is_in_use req.old.state ≡ false → pair.new ≡ pair.old }
+    ensures unchanged { IsErr result → pair.new ≡ pair.old }
     ensures shape { pair.new.shape ≡ pair.old.shape }
     ensures other_side { send_side pair.new ≡ send_side pair.old }
 {
@@ -56,6 +58,7 @@ pub fn test_send_plain(req: &mut Request, pair: &mut PlainPair) -> Result<PlainS
     ensures call { is_in_use req.old.state ≡ true → Follows pair.old pair.new result
         (λ r. Ok (test_send_answer pair.old.shape r)) (λ r. after_test_send pair.old.shape r) }
     ensures unused { is_in_use req.old.state ≡ false → pair.new ≡ pair.old }
+    ensures unchanged { result ≢ Ok PlainSendTest.Done → pair.new ≡ pair.old }
     ensures shape { pair.new.shape ≡ pair.old.shape }
     ensures other_side { recv_side pair.new ≡ recv_side pair.old }
 {
@@ -81,6 +84,7 @@ pub fn test_recv_plain(req: &mut Request, pair: &mut PlainPair) -> Result<RecvTe
     ensures call { is_in_use req.old.state ≡ true → Follows pair.old pair.new result
         (λ r. Ok (test_recv_answer pair.old.shape r)) (λ r. after_test_recv pair.old.shape r) }
     ensures unused { is_in_use req.old.state ≡ false → pair.new ≡ pair.old }
+    ensures unchanged { result ≢ Ok RecvTest.Done → pair.new ≡ pair.old }
     ensures shape { pair.new.shape ≡ pair.old.shape }
     ensures other_side { send_side pair.new ≡ send_side pair.old }
 {

@@ -4,17 +4,8 @@ ghost use Rattle.std.specs.Prelude.{◌≡◌, ◌↔◌, IfOk, IsErr, Ok};
 ghost use Rattle.part_api.specs.States.{completed, free_answer, is_in_use, refusal, start_told, state_freed, state_started};
 
 use crate::faults::{FreeFault, Freed, ReqFault};
-use part_geometry::StartFault;
+use part_geometry::{Side, StartFault};
 use std::marker::Model;
-
-/// Which side of a pair a request is.
-#[derive(Clone, Copy, Debug, PartialEq, Eq)]
-pub enum Side {
-    /// The sender (`MPI_Psend_init`, MPI 4.0, 4.2.1).
-    SendSide,
-    /// The receiver (`MPI_Precv_init`).
-    RecvSide,
-}
 
 /// Where a request stands.
 #[derive(Clone, Copy, Debug, PartialEq, Eq)]
@@ -32,7 +23,7 @@ pub enum ReqState {
 }
 
 /// A persistent request of a partitioned send or receive. Contracts see its side and its state.
-#[derive(Debug, Drop)]
+#[derive(Drop)]
 pub struct Request {
     side: Side,
     state: ReqState,
@@ -49,7 +40,7 @@ impl Model for Request {
 impl Request {
     /// A request of this side that isn't matched yet.
     pub fn new(side: Side) -> Request
-        ensures { result ≡ record { side = side; state = ReqState.Unmatched } }
+        ensures value { result ≡ record { side = side; state = ReqState.Unmatched } }
     {
         Request {
             side,
@@ -59,22 +50,22 @@ impl Request {
 
     /// Where it stands.
     pub fn state(&self) -> ReqState
-        ensures { result ≡ self.now.state }
+        ensures value { result ≡ self.now.state }
     {
         self.state
     }
 
     /// Which side it is.
     pub fn side(&self) -> Side
-        ensures { result ≡ self.now.side }
+        ensures value { result ≡ self.now.side }
     {
         self.side
     }
 
     /// Notes that it has a partner: it is inactive, before its first round.
     pub fn matched(&mut self)
-        requires { self.old.state ≡ ReqState.Unmatched }
-        ensures { self.new ≡ record self.old { state = ReqState.Inactive } }
+        requires unmatched { self.old.state ≡ ReqState.Unmatched }
+        ensures state { self.new ≡ record self.old { state = ReqState.Inactive } }
     {
         self.state = ReqState::Inactive;
     }
@@ -98,7 +89,7 @@ impl Request {
 
     /// What the request itself refuses.
     pub(crate) fn refuse(&self) -> Result<(), ReqFault>
-        ensures { result ≡ refusal self.now.state }
+        ensures answer { result ≡ refusal self.now.state }
     {
         match self.state {
             ReqState::Freed => Err(ReqFault::Freed),
@@ -136,7 +127,7 @@ impl Request {
 
     /// Notes that a test of its side answered `Done`.
     pub(crate) fn complete(&mut self)
-        ensures { self.new ≡ record self.old { state = completed self.old.state } }
+        ensures state { self.new ≡ record self.old { state = completed self.old.state } }
     {
         if let ReqState::Started { round } = self.state {
             self.state = ReqState::Complete { round };

@@ -21,6 +21,10 @@ ReadsSomeFile {File} left limit (Err (TooLong told)) = (file : File) × ReadsToE
 ReadsSomeFile left limit (Err Failed) = ⊤
 ReadsSomeFile left limit (Err NoMemory) = ⊤
 
+-- at most n bytes were taken from the reader
+abbrev pub TakesAtMost : Option (List ℕ) → Option (List ℕ) → ℕ → Type 0
+TakesAtMost left rest n = (taken : List ℕ) × (length taken ≤ n) × Consumes left rest taken
+
 -- the bytes grew by what the reader gave, at most this much
 pub record TakesBlock (old new : List ℕ) (left rest : Option (List ℕ)) (most count : ℕ) : Type 0 where
   pub block : List ℕ

@@ -10,3 +10,7 @@ pub record HasCause {T E : Type 0} (before now : ℕ) (result : Result T E) : Ty
   pub later : before ≤ now
   pub failed : OnErr result (Rose before now)
   pub kept : OnOk result (now ≡ before)
+
+-- a count of calls went up by one, or stands at its last value
+abbrev pub Next : ℕ → ℕ → ℕ → Type 0
+Next last before now = now ≡ min (before + 1) last

@@ -4,4 +4,6 @@ pub mod Shelf
 pub mod Sink
 pub mod Streams
 pub mod SteadyShelf
+pub mod MemShelf
+pub mod MemSink
 pub mod SteadySink

@@ -1,5 +1,6 @@
 -- What a read of a shelf may answer.
-use Rattle.std.specs.Prelude.{◌≡◌, ℕ, ◌<◌, ◌≤◌, List, length, Option, None, Some, Result, Ok, Err, Vec, IfSome, IsSomeAnd, ⊤}
+use Rattle.std.specs.Prelude.{◌≡◌, ℕ, ◌<◌, ◌≤◌, List, length, Option, None, Some, Result, Ok, Err, Vec, IfSome}
+use Rattle.std.specs.Prelude.{IsSomeAnd, ⊤}
 use Rattle.std.specs.declared.alloc.Global.{Global}
 use Rattle.part_io.specs.Causes.{Rose}
 use Rattle.part_io.specs.declared.answers.ReadAnswer.{ReadAnswer}
@@ -9,7 +10,8 @@ use Rattle.part_io.specs.declared.answers.ReadAnswer.TheVariants.{Missing, TooLo
 abbrev pub Reads : Option (List ℕ → Option (List ℕ)) → List ℕ → ℕ → Result (Vec ℕ Global) ReadAnswer → Type 0
 Reads files name limit (Ok bytes) = IfSome files (λ held. held name ≡ Some bytes.items)
 Reads files name limit (Err Missing) = IsSomeAnd files (λ held. held name ≡ None)
-Reads files name limit (Err (TooLong told)) = (told ≡ limit) × IfSome files (λ held. IsSomeAnd (held name) (λ bytes. limit < length bytes))
+Reads files name limit (Err (TooLong told)) = (told ≡ limit) ×
+    IfSome files (λ held. IsSomeAnd (held name) (λ bytes. limit < length bytes))
 Reads files name limit (Err Failed) = ⊤
 Reads files name limit (Err NoMemory) = ⊤
 

@@ -3,25 +3,20 @@
 ghost use Rattle.std.specs.Prelude.{◌≡◌};
 
 use std::alloc::AllocError;
-use thiserror::Error;
 
 /// Why a read gives no bytes.
-#[derive(Clone, Copy, Debug, PartialEq, Eq, Error)]
+#[derive(Clone, Copy, Debug, PartialEq, Eq)]
 pub enum ReadAnswer {
     /// The shelf has no file of that name. Only a shelf that tells its files answers this.
-    #[error("there is no such file")]
     Missing,
     /// The file has more bytes than the read allows.
-    #[error("the file is longer than {limit} bytes")]
     TooLong {
         /// The most bytes that the read allows.
         limit: u32,
     },
     /// The outside failed; the shelf has counted a fault.
-    #[error("the file could not be read")]
     Failed,
     /// There is no memory for the bytes. This is no fault.
-    #[error("out of memory")]
     NoMemory,
 }
 
@@ -36,6 +31,5 @@ impl From<AllocError> for ReadAnswer {
 }
 
 /// A write did not take the whole piece; the sink has counted a fault.
-#[derive(Clone, Copy, Debug, PartialEq, Eq, Error)]
-#[error("the output could not be written")]
+#[derive(Clone, Copy, Debug, PartialEq, Eq)]
 pub struct Failed;

@@ -1,10 +1,10 @@
 //! A shelf over the files of the system.
 
-ghost use Rattle.std.specs.Prelude.{◌≡◌, ◌≤◌, ◌<◌, None, IfOk, IfErr, length, take, vec_len};
-ghost use Rattle.std.specs.Io.KnownBytes.{Consumes, IsAtEnd};
+ghost use Rattle.std.specs.Prelude.{◌≡◌, ◌+◌, ◌≤◌, ◌<◌, None, IfOk, IfErr, OnErr, length, take, vec_len};
+ghost use Rattle.std.specs.Io.KnownBytes.{Consumes, IsAtEnd, Keeps};
 ghost use Rattle.std.specs.Io.{ReadsAtMost};
 ghost use Rattle.part_io.specs.Shelf.{Reads, HasReadCause};
-ghost use Rattle.part_io.specs.Block.{ReadsToEnd, ReadsSomeFile, TakesBlock, IsOfOutside};
+ghost use Rattle.part_io.specs.Block.{ReadsToEnd, ReadsSomeFile, TakesAtMost, TakesBlock, IsOfOutside};
 
 use crate::{ReadAnswer, Shelf};
 use std::alloc::Global;
@@ -78,14 +78,23 @@ fn file_bytes<R: Files>(
     }
 }
 
-// All that the reader has left, of which at most `limit + 1` bytes are read.
-fn bytes_to_end<R: Read>(reader: &mut R, alloc: Global, limit: u32) -> Result<Vec<u8>, ReadAnswer>
+/// All that a reader has left, where that is at most `limit` bytes. At most `limit + 1` bytes are read.
+///
+/// A reader with more is `TooLong`, with that limit. `Failed` is a read that failed, and `NoMemory` may be answered
+/// anywhere. A read that a signal interrupts is tried again.
+pub fn bytes_to_end<R: Read>(
+    reader: &mut R,
+    alloc: Global,
+    limit: u32,
+) -> Result<Vec<u8>, ReadAnswer>
     ensures answer { ReadsToEnd (R.remaining reader.old) limit result }
     ensures within { IfOk result (λ bytes. vec_len bytes ≤ limit) }
+    ensures taken { TakesAtMost (R.remaining reader.old) (R.remaining reader.new) (limit + 1) }
 {
     let most = limit as usize;
     let mut bytes = Vec::new(alloc);
-    for _ in 0..u64::MAX {
+    // Each turn that isn't the last takes a byte, and there are at most `most` of them.
+    for _turn in 0..most + 1 {
         let room = most + 1 - bytes.len();
         let count = add_block(reader, &mut bytes, room)?;
         if count == 0 {
@@ -95,7 +104,7 @@ fn bytes_to_end<R: Read>(reader: &mut R, alloc: Global, limit: u32) -> Result<Ve
             return Err(ReadAnswer::TooLong { limit });
         }
     }
-    Err(ReadAnswer::Failed)
+    unreachable!()
 }
 
 // How many bytes one read asks for.
@@ -107,6 +116,7 @@ fn add_block<R: Read>(reader: &mut R, bytes: &mut Vec<u8>, most: usize) -> Resul
     ensures block { IfOk result (TakesBlock bytes.old.items bytes.new.items
         (R.remaining reader.old) (R.remaining reader.new) most) }
     ensures end { IfOk result (λ count. count ≡ 0 → IsAtEnd (R.remaining reader.new)) }
+    ensures taken { OnErr result (TakesAtMost (R.remaining reader.old) (R.remaining reader.new) most) }
     ensures error { IfErr result IsOfOutside }
 {
     let mut block = [0u8; BLOCK];
@@ -123,8 +133,10 @@ fn read_some<R: Read>(reader: &mut R, block: &mut [u8]) -> Result<usize, ReadAns
     ensures given { IfOk result (λ count.
         Consumes (R.remaining reader.old) (R.remaining reader.new) (take count block.new)) }
     ensures end { IfOk result (λ count. count ≡ 0 → IsAtEnd (R.remaining reader.new)) }
+    ensures none_lost { OnErr result (Keeps (R.remaining reader.old) (R.remaining reader.new)) }
     ensures error { IfErr result (λ e. e ≡ ReadAnswer.Failed) }
 {
+    // A loop has an end: after 2^64 - 1 interruptions the read counts as one that failed.
     for _ in 0..u64::MAX {
         match reader.read(block) {
             Ok(count) => return Ok(count),
@@ -136,71 +148,4 @@ fn read_some<R: Read>(reader: &mut R, block: &mut [u8]) -> Result<usize, ReadAns
         }
     }
     Err(ReadAnswer::Failed)
-}
-
-#[cfg(test)]
-mod tests {
-    use super::*;
-    use std::io;
-    use std::test::Fail;
-
-    // Gives bytes one at a time after one interruption, and fails or ends after a few.
-    #[derive(Drop)]
-    struct Drip {
-        calls: u8,
-        ends: bool,
-    }
-
-    impl Read for Drip {
-        fn read(&mut self, buf: &mut [u8]) -> io::Result<usize> {
-            self.calls = self.calls.saturating_add(1);
-            if self.calls == 2 {
-                return Err(io::Error::from(ErrorKind::Interrupted));
-            }
-            if self.calls > 5 {
-                return if self.ends {
-                    Ok(0)
-                } else {
-                    Err(io::Error::other("gone"))
-                };
-            }
-            if buf.is_empty() {
-                return Ok(0);
-            }
-            buf[0] = self.calls;
-            Ok(1)
-        }
-    }
-
-    #[test]
-    fn a_reader_is_read_to_its_end(rt: HostRuntime) -> Result<(), Fail> {
-        let mut drip = Drip {
-            calls: 0,
-            ends: true,
-        };
-        let bytes = bytes_to_end(&mut drip, rt.alloc(), 4)?;
-        assert_eq!(rt; bytes.as_slice(), [1, 3, 4, 5].as_slice());
-        Ok(())
-    }
-
-    #[test]
-    fn a_reader_is_left_one_byte_past_the_limit(rt: HostRuntime) {
-        let mut drip = Drip {
-            calls: 0,
-            ends: true,
-        };
-        let answer = bytes_to_end(&mut drip, rt.alloc(), 2);
-        assert_eq!(rt; answer.err(), Some(ReadAnswer::TooLong { limit: 2 }));
-        assert_eq!(rt; drip.calls, 4);
-    }
-
-    #[test]
-    fn a_reader_that_fails_in_mid_stream_is_a_failure(rt: HostRuntime) {
-        let mut drip = Drip {
-            calls: 0,
-            ends: false,
-        };
-        let answer = bytes_to_end(&mut drip, rt.alloc(), 9);
-        assert_eq!(rt; answer.err(), Some(ReadAnswer::Failed));
-    }
 }

@@ -1,6 +1,7 @@
 //! A sink in memory, of a room that is taken when it is made.
 
-ghost use Rattle.std.specs.Prelude.{◌≡◌, ◌≤◌, ◌+◌, ◌-◌, ◌^◌, ◌↔◌, ◌++◌, [], Some, min, length, take, IfOk, IsOk, OnErr, vec_len, vec_capacity};
+ghost use Rattle.std.specs.Prelude.{◌≡◌, ◌≤◌, ◌+◌, ◌-◌, ◌^◌, ◌↔◌, ◌++◌, [], Some, min, length, take, IfOk, IsOk, OnErr};
+ghost use Rattle.std.specs.Prelude.{vec_len, vec_capacity};
 ghost use Rattle.part_io.specs.Causes.{HasCause};
 ghost use Rattle.part_io.specs.Sink.{Writes};
 

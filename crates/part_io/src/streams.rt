@@ -114,6 +114,7 @@ fn write_whole<W: Write>(writer: &mut W, piece: &[u8]) -> Result<(), Failed>
         × Appends (W.contents writer.old) (W.contents writer.new) (take n piece.now)) }
 {
     let mut done = 0;
+    // A loop has an end: after 2^64 - 1 turns, nearly all of them interrupted, the write counts as one that failed.
     for _ in 0..u64::MAX {
         if done == piece.len() {
             return Ok(());
@@ -129,70 +130,4 @@ fn write_whole<W: Write>(writer: &mut W, piece: &[u8]) -> Result<(), Failed>
         }
     }
     Err(Failed)
-}
-
-#[cfg(test)]
-mod tests {
-    use super::*;
-    use std::io;
-
-    // Takes two bytes at a time and is interrupted once; after six bytes it takes no more.
-    #[derive(Drop)]
-    struct Narrow {
-        taken: usize,
-        interrupted: bool,
-    }
-
-    impl Write for Narrow {
-        fn write(&mut self, buf: &[u8]) -> io::Result<usize> {
-            if self.taken == 2 && !self.interrupted {
-                self.interrupted = true;
-                return Err(io::Error::from(ErrorKind::Interrupted));
-            }
-            if self.taken >= 6 {
-                return Ok(0);
-            }
-            let count = buf.len().min(2);
-            self.taken = self.taken.saturating_add(count);
-            Ok(count)
-        }
-
-        fn flush(&mut self) -> io::Result<()> {
-            Ok(())
-        }
-    }
-
-    #[test]
-    fn a_piece_goes_out_in_parts(rt: HostRuntime) {
-        let mut narrow = Narrow {
-            taken: 0,
-            interrupted: false,
-        };
-        assert_eq!(rt; write_whole(&mut narrow, b"12345"), Ok(()));
-        assert_eq!(rt; narrow.taken, 5);
-    }
-
-    #[test]
-    fn a_writer_that_takes_nothing_is_a_failure(rt: HostRuntime) {
-        let mut narrow = Narrow {
-            taken: 0,
-            interrupted: false,
-        };
-        assert_eq!(rt; write_whole(&mut narrow, b"1234567"), Err(Failed));
-        assert_eq!(rt; narrow.taken, 6);
-    }
-
-    #[test]
-    fn a_piece_that_does_not_go_out_is_counted(rt: HostRuntime) {
-        let narrow = Narrow {
-            taken: 6,
-            interrupted: false,
-        };
-        let mut sink = OutSink::new(narrow);
-        assert_eq!(rt; sink.write(b"out"), Err(Failed));
-        assert_eq!(rt; sink.faults(), 1);
-        let mut notes = NoteSink::new(sink.writer);
-        assert_eq!(rt; notes.write(b"note"), Err(Failed));
-        assert_eq!(rt; notes.faults(), 1);
-    }
 }

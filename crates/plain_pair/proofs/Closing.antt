@@ -1,5 +1,6 @@
 -- What a closed pair tells is what its records say.
 use Rattle.std.proofs.Common.{◌≡◌, ℕ, ◌+◌, ◌-◌, ◌*◌, ◌≤◌, ◌==◌, if◌then◌else◌, List, length, count_by, ap, ◌∙◌, arith}
+use Rattle.part_geometry.specs.declared.TheConstants.{MAX_TOTAL}
 use Rattle.part_geometry.proofs.Bounds.{cells-le}
 use Rattle.part_geometry.proofs.PieceFacts.{pieces-le}
 use Rattle.plain_pair.specs.Record.{Record}
@@ -9,7 +10,7 @@ use Rattle.plain_pair.specs.StandsFor.{StandsFor}
 use Rattle.plain_pair.specs.Closing.{closed_answer}
 use Rattle.plain_pair.proofs.Outs.{out-missing}
 
-pub few_missing : (k : Kept) (missing passed : List ℕ) → IsSound k missing → passed ≡ missing → length passed ≤ 16777216
+pub few_missing : (k : Kept) (missing passed : List ℕ) → IsSound k missing → passed ≡ missing → length passed ≤ MAX_TOTAL
 few_missing k missing passed s same =
     let e = ap length same in let size = s.sizes.missing_size in
     let p = pieces-le k.shape in let c = cells-le k.shape s.shape in let l = s.shape.length in omega arith

@@ -1,4 +1,3 @@
-pub mod Walks
 pub mod Firsts
 pub mod Needs
 pub mod Counts
@@ -22,3 +21,4 @@ pub mod TestAnswers
 pub mod Growth
 pub mod ManyMarks
 pub mod ManyLawFacts
+pub mod Reaching

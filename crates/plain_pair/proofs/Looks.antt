@@ -6,7 +6,7 @@ use Rattle.std.proofs.lemmas.Bool.{cases_order, eq-eqb, ne_eqb, lt-ltb, le-ltb, 
 use Rattle.std.proofs.lemmas.List.{get_or_past}
 use Rattle.part_geometry.specs.Shape.{Shape, send_total}
 use Rattle.part_geometry.specs.Cells.{start, end, send_of, recv_of}
-use Rattle.part_geometry.specs.Pieces.{pieces, piece_of, first_part, need_count, needed}
+use Rattle.part_geometry.specs.Pieces.{pieces, piece_of, first_part, need_count, needed, is_over}
 use Rattle.part_geometry.proofs.Bounds.{end-start}
 use Rattle.part_geometry.proofs.Parts.{send_end-le, recv_end-le}
 use Rattle.part_geometry.proofs.PieceFacts.{piece_of-holds, Touches-range, need_count-pos}
@@ -14,7 +14,7 @@ use Rattle.std.specs.Option.{option_map_or}
 use Rattle.plain_pair.specs.declared.answers.PlainLook.TheVariants as look
 use Rattle.plain_pair.specs.Tables.{ArePiecesOver}
 use Rattle.plain_pair.specs.Moves.{parrived_answer}
-use Rattle.plain_pair.specs.Record.{Record, no_marks, round_of, is_marked, is_out, is_over, missing_piece}
+use Rattle.plain_pair.specs.Record.{Record, no_marks, round_of, is_marked, is_out, missing_piece}
 use Rattle.plain_pair.specs.Kept.{Kept, has, is_whole, kept_mark}
 use Rattle.plain_pair.specs.Sound.{IsSound}
 use Rattle.plain_pair.specs.Looking.{kept_piece_out, kept_missing}
@@ -25,7 +25,8 @@ use Rattle.plain_pair.proofs.Rounds.{is_out-none, needed_below}
 use Rattle.plain_pair.proofs.Agree.{out_now}
 use Rattle.plain_pair.proofs.Marks.{kept_mark-here}
 use Rattle.plain_pair.proofs.Starts.{kept_mark-before}
-use Rattle.plain_pair.proofs.Overs.{cell-over, find-none, find-some, find-same, find-nothing, find-window, cell_of_place}
+use Rattle.part_geometry.proofs.Overs.{cell-over}
+use Rattle.plain_pair.proofs.Overs.{find-none, find-some, find-same, find-nothing, find-window, cell_of_place}
 
 -- a piece is out of the receiver's round by what is kept exactly where it is by the record
 pub piece_out_now : (k : Kept) (missing : List ℕ) (r : Record) → IsSound k missing → StandsFor k r → k.receiving ≡ true → (i : ℕ) → i < pieces k.shape

@@ -2,6 +2,7 @@
 use Rattle.std.proofs.Common.{◌≡◌, ℕ, ◌+◌, ◌-◌, ◌<◌, ◌≤◌, List, [], ◌∷◌, ◌++◌, length, get_or, map, refl, ap, arith}
 use Rattle.std.specs.List.{range_with_len}
 use Rattle.std.proofs.lemmas.List.FromFn.{map-range_with_len_more}
+use Rattle.part_geometry.specs.declared.TheConstants.{MAX_PARTS}
 use Rattle.part_geometry.specs.declared.walk.Cell.{Cell}
 use Rattle.part_geometry.specs.Shape.{Shape, IsShape}
 use Rattle.part_geometry.specs.Cells.{cells, send_of}
@@ -37,7 +38,7 @@ pub record TurnOf (g : Shape) (i first next : ℕ) (a b : Cell) : Type 0 where
   pub first_is : a.send ≡ first_part g i
   pub last_is : b.send ≡ last_part g i
   pub ordered : a.send ≤ b.send + 1
-  pub small : b.send < 1024
+  pub small : b.send < MAX_PARTS
 
 pub turn : (g : Shape) (v : IsShape g) (all : List Cell) (firsts : List ℕ) (i first next : ℕ) (d e : Cell)
     → all ≡ map (cell_at g) (range_with_len 0 (cells g)) → AreFirsts Piece g firsts → i + 1 < length firsts

@@ -1,36 +1,17 @@
 -- The pieces over a receive partition, and the least of them that isn't out.
-use Rattle.std.proofs.Common.{◌≡◌, ◌⊎◌, ℕ, zero, suc, zero-add, add-zero, ◌+◌, ◌-◌, ◌<◌, ◌≤◌, Bool, true, false, cond, nat_le, Some, None, find, refl, ap, sym, ◌∙◌, arith, inl, inr}
+use Rattle.std.proofs.Common.{◌≡◌, ◌⊎◌, ℕ, zero, suc, zero-add, add-zero, ◌+◌, ◌-◌, ◌<◌, ◌≤◌, Bool, true, false, cond, Some, None, find, refl, ap, sym, ◌∙◌, arith, inl, inr}
 use Rattle.std.specs.List.{range_with_len}
 use Rattle.std.proofs.Math.Nat.{suc-add}
-use Rattle.std.proofs.lemmas.Bool.{cases_lt, cases_Bool, le-leb, leb-true, and_from, and_parts, false_from_ne_true}
+use Rattle.std.proofs.lemmas.Bool.{cases_lt, cases_Bool, false_from_ne_true}
 use Rattle.part_geometry.specs.Shape.{Shape, IsShape, send_total}
-use Rattle.part_geometry.specs.Cells.{cells, start, recv_of}
-use Rattle.part_geometry.specs.Pieces.{pieces, piece_of, first_cell, last_cell}
+use Rattle.part_geometry.specs.Cells.{cells, start}
+use Rattle.part_geometry.specs.Pieces.{pieces, piece_of, first_cell, last_cell, is_over}
 use Rattle.part_geometry.proofs.Bounds.{start-zero, start-last}
-use Rattle.part_geometry.proofs.Parts.{recv-mono}
 use Rattle.part_geometry.proofs.PieceFacts.{piece-ordered, piece_of-inside, piece_of-holds}
-use Rattle.part_geometry.proofs.Rows.{row-le, row-below, row-hits, piece-row, recv-row}
+use Rattle.part_geometry.proofs.Overs.{over-cell, cell-over}
+use Rattle.part_geometry.proofs.Rows.{row-le, row-below, row-hits, piece-row}
 use Rattle.plain_pair.specs.declared.tables.Row.TheVariants.{Recv}
 use Rattle.plain_pair.specs.Tables.{AreCellsOf, ArePiecesOver}
-use Rattle.plain_pair.specs.Record.{is_over}
-
--- a piece over q has a cell of q, and the piece of a cell of q is over q
-pub over-cell : (g : Shape) (v : IsShape g) (q i : ℕ) → i < pieces g → is_over g q i ≡ true → (d : ℕ) × (first_cell g i ≤ d) × (d ≤ last_cell g i) × (recv_of g d ≡ q)
-over-cell g v q i inside over =
-    let h = and_parts (nat_le (recv_of g (first_cell g i)) q) (nat_le q (recv_of g (last_cell g i))) over in
-    let o = piece-ordered g i inside in
-    let e : first_cell g i + (last_cell g i - first_cell g i) ≡ last_cell g i = (let l = o.0 in omega arith) in
-    let z : recv_of g (first_cell g i + (last_cell g i - first_cell g i)) ≡ recv_of g (last_cell g i) = ap (recv_of g) e in
-    let low = leb-true _ _ h.0 in let high = leb-true _ _ h.1 in
-    let d = row-hits (recv_of g) (cells g) g.recv_parts (recv-row g v) (first_cell g i) (last_cell g i - first_cell g i) q (let l = o.1 in omega arith) low (omega arith) in
-    (d.0, d.1, (let u = d.2 in omega arith), d.3)
-
-pub cell-over : (g : Shape) (v : IsShape g) (q i d : ℕ) → i < pieces g → first_cell g i ≤ d → d ≤ last_cell g i → recv_of g d ≡ q → is_over g q i ≡ true
-cell-over g v q i d inside low high is =
-    let o = piece-ordered g i inside in
-    let a = recv-mono g v (first_cell g i) d low (let l = o.1 in omega arith) in
-    let b = recv-mono g v d (last_cell g i) high (let l = o.1 in omega arith) in
-    and_from (nat_le (recv_of g (first_cell g i)) q) (nat_le q (recv_of g (last_cell g i))) (le-leb _ _ (omega arith)) (le-leb _ _ (omega arith))
 
 pub pieces_over_part : (g : Shape) (v : IsShape g) (q first next : ℕ) → AreCellsOf Recv g q first next → ArePiecesOver g q (piece_of g first) (piece_of g (next - 1) + 1)
 pieces_over_part g v q first next is =

@@ -8,6 +8,7 @@ use Rattle.std.proofs.lemmas.List.{length-replicate, length_push, get_or-replica
 use Rattle.std.proofs.lemmas.Nat.{mul-le}
 use Rattle.std.proofs.Math.Nat.{one-mul, zero-mul, add-mul}
 use Rattle.std.proofs.lemmas.List.FromFn.{length-map-range_with_len, get_or-map-range_with_len}
+use Rattle.part_geometry.specs.declared.TheConstants.{LAST_ROUND}
 use Rattle.part_geometry.specs.declared.answers.StartFault.TheVariants.{RoundsSpent}
 use Rattle.part_geometry.specs.Shape.{Shape, IsShape}
 use Rattle.part_geometry.specs.Pieces.{pieces, need_count, needed, first_part}
@@ -43,7 +44,7 @@ kept_mark-within k round p is =
       | inr ok ↦ ok
     ]
 
-pub sound_start_send : (k : Kept) (missing needs : List ℕ) → IsSound k missing → k.sending ≡ false → k.sent < 2147483647
+pub sound_start_send : (k : Kept) (missing needs : List ℕ) → IsSound k missing → k.sending ≡ false → k.sent < LAST_ROUND
     → needs ≡ map (need_count k.shape) (range_with_len 0 (pieces k.shape)) → IsSound (sending_kept k) needs
 sound_start_send k missing needs s idle more is =
     let g = k.shape in
@@ -246,10 +247,10 @@ stands_first g buffers = record {
 }
 
 -- what an answered start tells
-pub start_ok : (active : Bool) (k n : ℕ) → Ok n ≡ start_answer active k → (active ≡ false) × (n ≡ k + 1) × (k ≢ 2147483647)
+pub start_ok : (active : Bool) (k n : ℕ) → Ok n ≡ start_answer active k → (active ≡ false) × (n ≡ k + 1) × (k ≢ LAST_ROUND)
 start_ok true k n is = cc
 start_ok false k n is =
-    elim (cases_Bool (k == 2147483647)) [
+    elim (cases_Bool (k == LAST_ROUND)) [
       | inl last ↦ let e : Ok n ≡ Err RoundsSpent = is ∙ cond-true _ _ _ last in cc
       | inr other ↦
           let e : Ok n ≡ Ok (k + 1) = is ∙ cond-false _ _ _ other in

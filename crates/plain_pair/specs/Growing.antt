@@ -1,6 +1,7 @@
 -- What several marks count, by what is kept.
 use Rattle.std.specs.Prelude.{◌≡◌, ℕ, ◌+◌, ◌≤◌, MatchResult, Result, Err, None, count_by}
 use Rattle.std.specs.List.{range_with_len}
+use Rattle.part_geometry.specs.declared.TheConstants.{MAX_PARTS, MAX_TOTAL}
 use Rattle.part_geometry.specs.declared.answers.Marks.{Marks}
 use Rattle.part_geometry.specs.Pieces.{pieces}
 use Rattle.plain_pair.specs.declared.answers.PlainStop.{PlainStop}
@@ -19,8 +20,8 @@ pieces_in kept = count_by (is_whole kept.shape kept.marked) (range_with_len 0 (p
 pub record Grows (old new : Kept) (sent : ℕ) : Type 0 where
   pub marks : marks_in new ≡ marks_in old + 1
   pub pieces : pieces_in new ≡ pieces_in old + sent
-  pub few_marks : marks_in new ≤ 1024
-  pub few_pieces : pieces_in new ≤ 16777216
+  pub few_marks : marks_in new ≤ MAX_PARTS
+  pub few_pieces : pieces_in new ≤ MAX_TOTAL
 
 -- what was counted in this call is among what is marked and out
 pub record IsCounted (kept : Kept) (marks : Marks) : Type 0 where

@@ -16,3 +16,4 @@ pub mod Many
 pub mod Growing
 pub mod Sides
 pub mod ManyLaws
+pub mod Reached

@@ -2,11 +2,11 @@
 use Rattle.std.specs.Prelude.{◌≡◌, ℕ, ◌<◌, Bool, true, false, ◌&&◌, ◌||◌, ◌==◌, not, nat_lt, if◌then◌else◌, Option, Result, Ok, Err, find, length}
 use Rattle.std.specs.List.{range_with_len}
 use Rattle.std.specs.Option.{option_map_or}
-use Rattle.part_geometry.specs.Pieces.{pieces}
+use Rattle.part_geometry.specs.Pieces.{pieces, is_over}
 use Rattle.plain_pair.specs.declared.answers.PlainTake.{PlainTake}
 use Rattle.plain_pair.specs.declared.answers.PlainTake.TheVariants.{Idle, BadPartition, AlreadyTaken, NotYet}
 use Rattle.plain_pair.specs.Taken.{Taken}
-use Rattle.plain_pair.specs.Record.{Record, is_over}
+use Rattle.plain_pair.specs.Record.{Record}
 use Rattle.plain_pair.specs.Moves.{taken_of, took}
 use Rattle.plain_pair.specs.Kept.{Kept, has, is_whole}
 use Rattle.plain_pair.specs.StandsFor.{StandsFor}

@@ -4,6 +4,7 @@ use Rattle.std.specs.List.{range_with_len}
 use Rattle.std.specs.Option.{option_map_or}
 use Rattle.std.specs.FinMap as rounds
 use Rattle.std.specs.FinSet as parts
+use Rattle.part_geometry.specs.declared.TheConstants.{LAST_ROUND}
 use Rattle.part_geometry.specs.declared.answers.Marked.{Marked}
 use Rattle.part_geometry.specs.declared.answers.RecvTest.{RecvTest}
 use Rattle.part_geometry.specs.declared.answers.RecvTest.TheVariants as recv
@@ -24,7 +25,7 @@ use Rattle.plain_pair.specs.Record.{Record, send_round, round_of, is_marked, no_
 -- a side may start its next round, unless it is active in this one or this is the last
 abbrev pub start_answer : Bool → ℕ → Result ℕ StartFault
 start_answer active k =
-    if active then Err (AlreadyActive k) else (if k == 2147483647 then Err RoundsSpent else Ok (k + 1))
+    if active then Err (AlreadyActive k) else (if k == LAST_ROUND then Err RoundsSpent else Ok (k + 1))
 
 -- the record after a move, where the answer is Ok, and else the record as it is
 abbrev pub on_ok : {A E : Type 0} → Result A E → Record → Record → Record

@@ -1,12 +1,11 @@
 -- What a pair has done so far, by rounds (MPI 4.0, chapter 4).
-use Rattle.std.specs.Prelude.{ℕ, ◌+◌, ◌-◌, ◌*◌, ◌/◌, ◌%◌, Bool, false, ◌&&◌, not, nat_le, Option, List, [], length, map, sum_by, count_by, find, unwrap_or, slice_index, slice_index_or}
+use Rattle.std.specs.Prelude.{ℕ, ◌+◌, ◌-◌, ◌*◌, ◌/◌, ◌%◌, Bool, false, ◌&&◌, not, Option, List, [], length, map, sum_by, count_by, find, unwrap_or, slice_index, slice_index_or}
 use Rattle.std.specs.List.{range_with_len, list_all}
 use Rattle.std.specs.Ordering.{nat_cmp}
 use Rattle.std.specs.FinMap as rounds
 use Rattle.std.specs.FinSet as parts
 use Rattle.part_geometry.specs.Shape.{Shape}
-use Rattle.part_geometry.specs.Cells.{recv_of}
-use Rattle.part_geometry.specs.Pieces.{pieces, first_cell, last_cell, needed}
+use Rattle.part_geometry.specs.Pieces.{pieces, is_over, needed}
 
 -- a round: the send partitions that were marked, each with its bytes
 abbrev pub Round : Type 0
@@ -67,10 +66,6 @@ round_out g round = count_by (is_out g round) (range_with_len 0 (pieces g))
 
 unfoldable pub pieces_out : Shape → Record → ℕ
 pieces_out g r = sum_by (round_out g) r.rounds
-
--- a piece has a cell of receive partition q
-abbrev pub is_over : Shape → ℕ → ℕ → Bool
-is_over g q i = nat_le (recv_of g (first_cell g i)) q && nat_le q (recv_of g (last_cell g i))
 
 -- the least piece over receive partition q that isn't out; none where the partition has arrived
 unfoldable pub missing_piece : Shape → Round → ℕ → Option ℕ

@@ -1,5 +1,6 @@
 -- What holds of a pair between calls.
 use Rattle.std.specs.Prelude.{◌≡◌, ℕ, ◌+◌, ◌*◌, ◌/◌, ◌%◌, ◌<◌, ◌≤◌, Bool, true, false, ◌&&◌, ◌==◌, not, List, [], length, count_by, slice_index, slice_index_or}
+use Rattle.part_geometry.specs.declared.TheConstants.{LAST_ROUND}
 use Rattle.part_geometry.specs.Shape.{Shape, IsShape, send_total}
 use Rattle.part_geometry.specs.Pieces.{pieces, needed}
 use Rattle.plain_pair.specs.Kept.{Kept, has, kept_mark}
@@ -25,8 +26,8 @@ pub record HasSizes (kept : Kept) (missing : List ℕ) : Type 0 where
 
 -- the rounds of the sender are ahead of the released one by at most the depth, and those of the receiver by one
 pub record HasRounds (kept : Kept) : Type 0 where
-  pub sent : kept.sent ≤ 2147483647
-  pub received : kept.received ≤ 2147483647
+  pub sent : kept.sent ≤ LAST_ROUND
+  pub received : kept.received ≤ LAST_ROUND
   pub released : kept.released ≤ kept.sent
   pub begun : kept.sending ≡ true → 0 < kept.sent
   pub ahead : kept.sent ≤ kept.released + kept.shape.depth

@@ -4,9 +4,8 @@ use Rattle.std.specs.List.{range_with_len}
 use Rattle.part_geometry.specs.declared.walk.Cell.{Cell}
 use Rattle.part_geometry.specs.Shape.{Shape, IsShape}
 use Rattle.part_geometry.specs.Cells.{cells, send_of, recv_of}
-use Rattle.part_geometry.specs.Pieces.{pieces, piece_of, first_part, need_count}
+use Rattle.part_geometry.specs.Pieces.{pieces, piece_of, is_over, first_part, need_count}
 use Rattle.part_geometry.specs.Walk.{cell_at}
-use Rattle.plain_pair.specs.Record.{is_over}
 use Rattle.plain_pair.specs.declared.tables.Row.{Row}
 use Rattle.plain_pair.specs.declared.tables.Row.TheVariants.{Send, Recv, Piece}
 

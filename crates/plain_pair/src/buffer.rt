@@ -8,7 +8,7 @@ use std::marker::Model;
 use std::mem;
 
 /// Some bytes that move as one. Contracts see the list of them.
-#[derive(Debug, Drop)]
+#[derive(Drop)]
 pub(crate) struct Buffer {
     bytes: Vec<u8>,
 }

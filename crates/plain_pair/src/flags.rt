@@ -1,6 +1,7 @@
 //! One truth value for each partition, and one count for each piece.
 
 ghost use Rattle.std.specs.Prelude.{slice_index_or, ◌≡◌, ◌+◌, ◌-◌, ◌*◌, ◌≤◌, ◌==◌, if◌then◌else◌, count_by, Bool, false, length, replicate, slice_set, true, ◌<◌, IfOk};
+ghost use Rattle.part_geometry.specs.declared.TheConstants.{MAX_PARTS, MAX_TOTAL};
 ghost use Rattle.plain_pair.specs.Moves.{least_without};
 
 use std::alloc::{AllocError, Global};
@@ -36,7 +37,7 @@ pub(crate) fn reset(missing: &mut Vec<u32>, needs: &[u32])
 
 /// How many pieces went out up to a round of which these are missing.
 pub(crate) fn pieces_out(round: u32, missing: &[u32]) -> u64
-    requires { length missing.now ≤ 16777216 }
+    requires { length missing.now ≤ MAX_TOTAL }
     ensures { result ≡ (if round == 0 then 0
         else (round - 1) * length missing.now + count_by (λ m. m == 0) missing.now) }
 {
@@ -57,7 +58,7 @@ pub(crate) fn add(flags: &mut Vec<bool>, partition: usize)
 
 /// The least partition that isn't among these.
 pub(crate) fn least_without(flags: &[bool]) -> Option<u32>
-    requires { length flags.now ≤ 1024 }
+    requires { length flags.now ≤ MAX_PARTS }
     ensures { result ≡ least_without (length flags.now) (λ x. slice_index_or flags.now x false) }
 {
     for i in 0..flags.len() {

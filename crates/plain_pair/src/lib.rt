@@ -9,10 +9,8 @@ mod many;
 mod marking;
 mod pair;
 mod tables;
-#[cfg(test)]
-mod tests;
 
 pub use answers::{PlainLook, PlainRefusal, PlainSendTest, PlainStop, PlainTake};
 pub use arrival::PlainArrival;
-pub use many::marks_laws;
-pub use pair::{LAST_ROUND, PlainClosed, PlainPair};
+pub use many::{marks_laws, take_laws};
+pub use pair::{PlainClosed, PlainPair};

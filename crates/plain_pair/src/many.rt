@@ -1,9 +1,10 @@
 //! The marks of a range and of a list.
 
-ghost use Rattle.std.specs.Prelude.{◌≡◌, ◌+◌, ◌-◌, ◌*◌, ◌≤◌, ◌==◌, length, OnOk};
+ghost use Rattle.std.specs.Prelude.{◌≡◌, ◌+◌, ◌-◌, ◌*◌, ◌≤◌, ◌==◌, length, IfErr, OnOk};
 ghost use Rattle.plain_pair.specs.Growing.{GoesOn, IsAt, IsCounted};
 ghost use Rattle.plain_pair.specs.Many.{after_pready_list, after_pready_range, mark_one_more, part_of, pready_list_answer, pready_range_answer};
 ghost use Rattle.plain_pair.specs.ManyLaws.{AcceptedMarkAll, RefusedKeepMarks};
+ghost use Rattle.plain_pair.specs.Reached.{TakesAreMarked};
 ghost use Rattle.plain_pair.specs.Sides.{SameSides};
 ghost use Rattle.plain_pair.specs.StandsFor.{Follows};
 
@@ -24,6 +25,7 @@ impl PlainPair {
         bytes: &[u8],
     ) -> Result<Marks, PlainStop>
         ensures shape { self.new.shape ≡ self.old.shape }
+        ensures unchanged { IfErr result (λ stop. stop.at ≡ 0 → self.new ≡ self.old) }
         ensures sides { SameSides self.old self.new }
         ensures answer { Follows self.old self.new result
             (λ r. pready_range_answer self.old.shape r round low high bytes.now)
@@ -53,6 +55,7 @@ impl PlainPair {
         bytes: &[u8],
     ) -> Result<Marks, PlainStop>
         ensures shape { self.new.shape ≡ self.old.shape }
+        ensures unchanged { IfErr result (λ stop. stop.at ≡ 0 → self.new ≡ self.old) }
         ensures sides { SameSides self.old self.new }
         ensures answer { Follows self.old self.new result
             (λ r. pready_list_answer self.old.shape r round parts.now bytes.now)
@@ -81,6 +84,7 @@ impl PlainPair {
         requires counts { IsCounted self.old marks.old }
         requires bytes { (marks.old.count + 1) * self.old.shape.send_bytes ≤ length bytes.now }
         ensures shape { self.new.shape ≡ self.old.shape }
+        ensures unchanged { IfErr result (λ stop. (stop.at ≡ marks.old.count) × (self.new ≡ self.old)) }
         ensures sides { SameSides self.old self.new }
         ensures round { marks.new.round ≡ marks.old.round }
         ensures counts { OnOk result (IsCounted self.new marks.new) }
@@ -129,4 +133,10 @@ fn no_marks(round: u32) -> Marks
 pub fn marks_laws()
     ensures accepted { AcceptedMarkAll }
     ensures refused { RefusedKeepMarks }
+{}
+
+/// What holds of every take, for proofs; the body is empty. Whatever calls of a pair were made, each byte that a take
+/// gives was marked in the receiver's round, in a mark of a partition's length.
+pub fn take_laws()
+    ensures marked { TakesAreMarked }
 {}

@@ -2,6 +2,7 @@
 
 ghost use Rattle.std.specs.Prelude.{◌≡◌, ℕ, ◌+◌, ◌-◌, ◌*◌, ◌<◌, ◌≤◌, ◌==◌, ◌&&◌, nat_le, if◌then◌else◌, [], length, count_by, find, not, slice_index, slice_set};
 ghost use Rattle.std.specs.List.{range_with_len};
+ghost use Rattle.part_geometry.specs.declared.TheConstants.{MAX_TOTAL};
 ghost use Rattle.part_geometry.specs.Pieces.{pieces};
 ghost use Rattle.plain_pair.specs.Lessens.{Lessens};
 ghost use Rattle.plain_pair.specs.Stored.{Stores, HasRoom, CanStore, cell_stored};
@@ -40,6 +41,7 @@ pub(crate) fn store(tables: &Tables, buffers: &mut Vec<Buffer>, base: usize, p: 
     ensures { Stores tables.now base (p * tables.now.send_bytes) ((p + 1) * tables.now.send_bytes) bytes.now
         buffers.old.items buffers.new.items }
 {
+    // The geometry's limits, for the proof.
     let _geometry = tables.geometry();
     let (first, end) = tables.send_cells(p);
     let low = tables.cell(first).start as usize;
@@ -63,7 +65,7 @@ fn lessen(missing: &mut Vec<u32>, i: usize) -> bool
 /// One partition less is missing of each piece from `first` up to and without `end`. Answers how many became whole.
 pub(crate) fn count_down(missing: &mut Vec<u32>, first: usize, end: usize) -> u32
     requires inside { end ≤ length missing.old.items }
-    requires few { end ≤ 16777216 }
+    requires few { end ≤ MAX_TOTAL }
     requires ordered { first ≤ end }
     requires some { (i : ℕ) → first ≤ i → i < end → 1 ≤ slice_index missing.old.items i }
     ensures left { Lessens missing.old.items missing.new.items first end }
@@ -81,7 +83,7 @@ pub(crate) fn count_down(missing: &mut Vec<u32>, first: usize, end: usize) -> u3
 /// The least piece from `first` up to and without `end` of which something is missing.
 pub(crate) fn first_missing(missing: &[u32], first: usize, end: usize) -> Option<u32>
     requires inside { end ≤ length missing.now }
-    requires few { end ≤ 16777216 }
+    requires few { end ≤ MAX_TOTAL }
     ensures { result ≡ find (λ i. not (slice_index missing.now i == 0)) (range_with_len first (end - first)) }
 {
     for i in first..end {

@@ -1,6 +1,7 @@
 //! The object.
 
-ghost use Rattle.std.specs.Prelude.{◌≡◌, ◌<◌, ◌≤◌, None, false, length, IfOk};
+ghost use Rattle.std.specs.Prelude.{◌≡◌, ◌≢◌, ◌<◌, ◌≤◌, None, false, length, IfOk, IsErr};
+ghost use Rattle.part_geometry.specs.declared.TheConstants.{LAST_ROUND};
 ghost use Rattle.plain_pair.specs.Moves.{start_answer};
 
 use crate::answers::{PlainLook, PlainRefusal, PlainSendTest, PlainTake};
@@ -9,12 +10,9 @@ use crate::buffer::{Buffer, put_at, take_at, zero_buffers};
 use crate::flags::{add, all_missing, clear, least_without, none_of, pieces_out, reset};
 use crate::marking::{count_down, first_missing, store};
 use crate::tables::Tables;
-use part_geometry::{Geometry, Marked, RecvTest, StartFault};
+use part_geometry::{Geometry, LAST_ROUND, Marked, RecvTest, StartFault};
 use std::alloc::{AllocError, Global};
 use std::marker::Model;
-
-/// The last round of a side.
-pub const LAST_ROUND: u32 = 2_147_483_647;
 
 /// A partitioned send and the receive that it is paired with, used by one thread. Contracts see what it keeps, and
 /// say what each call does by the records of rounds that it stands for.
@@ -60,7 +58,7 @@ pub struct PlainClosed {
 
 /// The round after the one that a side is in.
 fn next_round(active: bool, round: u32) -> Result<u32, StartFault>
-    requires { round ≤ 2147483647 }
+    requires { round ≤ LAST_ROUND }
     ensures { result ≡ start_answer active round }
 {
     if active {
@@ -101,6 +99,7 @@ impl PlainPair {
         let back = none_of(alloc, recv_parts)?;
         let missing = all_missing(alloc, tables.needs())?;
         let buffers = zero_buffers(alloc, places, geometry.recv_bytes() as usize)?;
+        // The geometry's limits, for the proof.
         let _geometry = tables.geometry();
         Ok(PlainPair {
             tables,
@@ -129,6 +128,7 @@ impl PlainPair {
     /// sender is active, and after the last round. Nothing is sent by it.
     pub fn start_send(&mut self) -> Result<u32, StartFault>
         ensures shape { self.new.shape ≡ self.old.shape }
+        ensures unchanged { IsErr result → self.new ≡ self.old }
         ensures answer { Follows self.old self.new result start_send_answer after_start_send }
         ensures by_side { result ≡ start_answer self.old.sending self.old.sent }
         ensures side { send_side self.new ≡ side_started result (send_side self.old) }
@@ -146,6 +146,7 @@ impl PlainPair {
     /// after the last round. It doesn't depend on the sender.
     pub fn start_recv(&mut self) -> Result<u32, StartFault>
         ensures shape { self.new.shape ≡ self.old.shape }
+        ensures unchanged { IsErr result → self.new ≡ self.old }
         ensures answer { Follows self.old self.new result start_recv_answer after_start_recv }
         ensures by_side { result ≡ start_answer self.old.receiving self.old.received }
         ensures side { recv_side self.new ≡ side_started result (recv_side self.old) }
@@ -161,7 +162,7 @@ impl PlainPair {
 
     /// Ends the pair, and tells how far it came.
     pub fn close(self) -> PlainClosed
-        ensures { (r : _) → StandsFor self r → result ≡ closed_answer self.shape r }
+        ensures answer { (r : _) → StandsFor self r → result ≡ closed_answer self.shape r }
     {
         PlainClosed {
             send_round: self.sent,
@@ -176,6 +177,7 @@ impl PlainPair {
     /// round, or the partition is marked already; nothing changes then.
     pub fn pready(&mut self, round: u32, p: u32, bytes: &[u8]) -> Result<Marked, PlainRefusal>
         ensures shape { self.new.shape ≡ self.old.shape }
+        ensures unchanged { IsErr result → self.new ≡ self.old }
         ensures sides { SameSides self.old self.new }
         ensures answer { Follows self.old self.new result
             (λ r. pready_answer self.old.shape r round p bytes.now)
@@ -192,12 +194,14 @@ impl PlainPair {
         bytes: &[u8],
     ) -> Result<Marked, PlainRefusal>
         ensures shape { self.new.shape ≡ self.old.shape }
+        ensures unchanged { IsErr result → self.new ≡ self.old }
         ensures sides { SameSides self.old self.new }
         ensures answer { Follows self.old self.new result
             (λ r. pready_answer self.old.shape r round p bytes.now)
             (λ r. after_pready self.old.shape r round p bytes.now) }
         ensures grows { IfOk result (λ m. Grows self.old self.new m.sent) }
     {
+        // The tables' limits, for the proof.
         let _tables = &self.tables;
         self.refuse_mark(round, p, bytes.len())?;
         let sent = self.mark(p as usize, bytes);
@@ -247,7 +251,7 @@ impl PlainPair {
 
     /// Whether receive partition `q` has arrived in the receiver's round (`MPI_Parrived`, MPI 4.0, 4.2.2).
     pub fn parrived(&self, q: u32) -> PlainLook
-        ensures { (r : _) → StandsFor self.now r → result ≡ parrived_answer self.now.shape r q }
+        ensures answer { (r : _) → StandsFor self.now r → result ≡ parrived_answer self.now.shape r q }
     {
         if !self.receiving {
             return PlainLook::Idle;
@@ -281,11 +285,13 @@ impl PlainPair {
     /// a piece over it isn't out; nothing changes then.
     pub fn take(&mut self, q: u32) -> Result<PlainArrival, PlainTake>
         ensures shape { self.new.shape ≡ self.old.shape }
+        ensures unchanged { IsErr result → self.new ≡ self.old }
         ensures sides { SameSides self.old self.new }
         ensures answer { Follows self.old self.new result
             (λ r. take_answer self.old.shape r q) (λ r. after_take self.old.shape r q) }
         ensures out { IfOk result (λ taken. IsOut self.new taken) }
     {
+        // The tables' limits, for the proof.
         let _tables = &self.tables;
         self.refuse_take(q)?;
         Ok(self.take_out(q))
@@ -341,7 +347,7 @@ impl PlainPair {
     /// Gives a partition back that was taken from this pair in the receiver's round. Its buffer serves a later
     /// round.
     pub fn give_back(&mut self, arrival: PlainArrival)
-        requires { IsOut self.old arrival }
+        requires out { IsOut self.old arrival }
         ensures shape { self.new.shape ≡ self.old.shape }
         ensures sides { SameSides self.old self.new }
         ensures back { (r : _) → StandsFor self.old r → StandsFor self.new (gave_back r arrival.partition) }
@@ -356,6 +362,7 @@ impl PlainPair {
     /// side becomes inactive; with every other answer nothing changes.
     pub fn test_send(&mut self) -> PlainSendTest
         ensures shape { self.new.shape ≡ self.old.shape }
+        ensures unchanged { result ≢ PlainSendTest.Done → self.new ≡ self.old }
         ensures answer { Follows self.old self.new result
             (λ r. test_send_answer self.old.shape r) (λ r. after_test_send self.old.shape r) }
         ensures idle { self.old.sending ≡ false → result ≡ PlainSendTest.Idle }
@@ -382,12 +389,14 @@ impl PlainPair {
     /// released and the side becomes inactive; with every other answer nothing changes.
     pub fn test_recv(&mut self) -> RecvTest
         ensures shape { self.new.shape ≡ self.old.shape }
+        ensures unchanged { result ≢ RecvTest.Done → self.new ≡ self.old }
         ensures answer { Follows self.old self.new result
             (λ r. test_recv_answer self.old.shape r) (λ r. after_test_recv self.old.shape r) }
         ensures idle { self.old.receiving ≡ false → result ≡ RecvTest.Idle }
         ensures side { recv_side self.new ≡ side_received result (recv_side self.old) }
         ensures other_side { send_side self.new ≡ send_side self.old }
     {
+        // The tables' limits, for the proof.
         let _tables = &self.tables;
         if !self.receiving {
             return RecvTest::Idle;

@@ -8,7 +8,7 @@ ghost use Rattle.part_geometry.specs.Pieces.{pieces, need_count};
 ghost use Rattle.part_geometry.specs.Walk.{cell_at};
 ghost use Rattle.plain_pair.specs.Tables.{AreCellsOf, AreFirsts, ArePiecesOf, ArePiecesOver};
 
-use part_geometry::{Cell, CellWalk, Geometry};
+use part_geometry::{Cell, Geometry, all_cells};
 use std::alloc::{AllocError, Global};
 use std::marker::Model;
 
@@ -34,18 +34,6 @@ impl Row {
     }
 }
 
-/// The cells of a geometry, in order.
-fn all_cells(alloc: Global, geometry: Geometry) -> Result<Vec<Cell>, AllocError>
-    ensures cells { IfOk result (λ all. all.items ≡ map (cell_at geometry) (range_with_len 0 (cells geometry))) }
-{
-    let mut all = Vec::new(alloc);
-    let mut walk = CellWalk::new(geometry);
-    while let Some(cell) = walk.advance() {
-        all.push(cell)?;
-    }
-    Ok(all)
-}
-
 /// The first cell of each number of a row, and behind them the number of cells.
 fn first_cells(
     alloc: Global,
@@ -56,6 +44,7 @@ fn first_cells(
     requires { all.now ≡ map (cell_at geometry) (range_with_len 0 (cells geometry)) }
     ensures firsts { IfOk result (λ firsts. AreFirsts row geometry firsts.items) }
 {
+    // The geometry's limits, for the proof.
     let _total = geometry.total();
     let mut firsts = Vec::new(alloc);
     for (c, cell) in all.iter().enumerate() {
@@ -78,6 +67,7 @@ fn piece_needs(
     requires firsts { AreFirsts Row.Piece geometry firsts.now }
     ensures needs { IfOk result (λ needs. needs.items ≡ map (need_count geometry) (range_with_len 0 (pieces geometry))) }
 {
+    // The geometry's limits, for the proof.
     let _total = geometry.total();
     let mut needs = Vec::new(alloc);
     for i in 0..firsts.len() - 1 {
@@ -115,6 +105,7 @@ impl Tables {
     pub(crate) fn create(alloc: Global, geometry: Geometry) -> Result<Tables, AllocError>
         ensures { IfOk result (λ tables. tables ≡ geometry) }
     {
+        // The geometry's limits, for the proof.
         let _total = geometry.total();
         let cells = all_cells(alloc, geometry)?;
         let sends = first_cells(alloc, geometry, Row::Send, &cells)?;
@@ -135,6 +126,7 @@ impl Tables {
         ensures value { result ≡ self.now }
         ensures limits { IsShape result }
     {
+        // The geometry's limits, for the proof.
         let _total = self.geometry.total();
         self.geometry
     }
@@ -157,6 +149,7 @@ impl Tables {
     pub(crate) fn needs(&self) -> &[u32]
         ensures { result.now ≡ map (need_count self.now) (range_with_len 0 (pieces self.now)) }
     {
+        // The lists' invariant, for the proof.
         let _cells = &self.cells;
         self.needs.as_slice()
     }
@@ -189,6 +182,7 @@ impl Tables {
         requires { p < self.now.send_parts }
         ensures { ArePiecesOf self.now p result.0 result.1 }
     {
+        // The geometry's limits, for the proof.
         let _geometry = self.geometry();
         let (first, end) = self.send_cells(p);
         let last = self.cell(end - 1).piece as usize;
@@ -200,6 +194,7 @@ impl Tables {
         requires { q < self.now.recv_parts }
         ensures { ArePiecesOver self.now q result.0 result.1 }
     {
+        // The geometry's limits, for the proof.
         let _geometry = self.geometry();
         let (first, end) = self.recv_cells(q);
         let last = self.cell(end - 1).piece as usize;

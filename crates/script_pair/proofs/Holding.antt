@@ -12,8 +12,8 @@ use Rattle.part_api.specs.declared.faults.Freed.{Freed}
 use Rattle.part_api.specs.declared.faults.ReqFault.{ReqFault}
 use Rattle.part_api.specs.declared.request.ReqState.{ReqState}
 use Rattle.part_api.specs.declared.request.ReqState.TheVariants as state
-use Rattle.part_api.specs.declared.request.Side.{Side}
-use Rattle.part_api.specs.declared.request.Side.TheVariants.{SendSide, RecvSide}
+use Rattle.part_geometry.specs.declared.answers.Side.{Side}
+use Rattle.part_geometry.specs.declared.answers.Side.TheVariants.{SendSide, RecvSide}
 use Rattle.part_api.specs.Req.{Req}
 use Rattle.part_api.specs.States.{Agrees, is_in_use, completed, state_started, state_sent, state_received, free_answer, state_freed}
 use Rattle.plain_pair.specs.declared.answers.PlainSendTest.{PlainSendTest}

@@ -6,6 +6,7 @@ use Rattle.std.specs.Cmp.{nat_cmp_total}
 use Rattle.std.specs.Option.{option_map_or}
 use Rattle.std.specs.Ordering.{nat_cmp}
 use Rattle.std.proofs.lemmas.Bool.{cases_Bool, ne_eqb, eq-eqb}
+use Rattle.part_geometry.specs.declared.TheConstants.{LAST_ROUND}
 use Rattle.part_geometry.specs.declared.answers.Marked.{Marked}
 use Rattle.part_geometry.specs.declared.answers.RecvTest.{RecvTest}
 use Rattle.part_geometry.specs.declared.answers.RecvTest.TheVariants as recv
@@ -174,10 +175,10 @@ started_cases old new r q slot m idle inside is =
 busy_start : (r : Record) → r.receiving ≡ true → after_start_recv r ≡ r
 busy_start r busy = rw busy refl
 
-spent_start : (r : Record) → r.receiving ≡ false → (r.received == 2147483647) ≡ true → after_start_recv r ≡ r
+spent_start : (r : Record) → r.receiving ≡ false → (r.received == LAST_ROUND) ≡ true → after_start_recv r ≡ r
 spent_start r idle spent = rw (idle, spent) refl
 
-idle_start : (r : Record) → r.receiving ≡ false → (r.received == 2147483647) ≡ false → after_start_recv r ≡ started_recv r
+idle_start : (r : Record) → r.receiving ≡ false → (r.received == LAST_ROUND) ≡ false → after_start_recv r ≡ started_recv r
 idle_start r idle more = rw (idle, more) refl
 
 moved_along : (old new : Kept) (r next other : Record) → next ≡ other → Moved old new r next → Moved old new r other
@@ -188,7 +189,7 @@ pub start_recv_kept : (old new : Kept) (r : Record) (q : ℕ) (slot : Option Tak
 start_recv_kept old new r q slot m inside is =
     elim (cases_Bool r.receiving) [
       | inl busy ↦ kept_same old new q slot (same_at old new r r q (moved_along old new r _ r (busy_start r busy) m) (same_refl r) inside) is
-      | inr idle ↦ elim (cases_Bool (r.received == 2147483647)) [
+      | inr idle ↦ elim (cases_Bool (r.received == LAST_ROUND)) [
         | inl spent ↦ kept_same old new q slot (same_at old new r r q (moved_along old new r _ r (spent_start r idle spent) m) (same_refl r) inside) is
         | inr more ↦ started_cases old new r q slot (moved_along old new r _ (started_recv r) (idle_start r idle more) m) idle inside is
       ]

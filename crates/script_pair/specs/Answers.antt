@@ -2,8 +2,8 @@
 use Rattle.std.specs.Prelude.{ℕ, Bool, true, false, if◌then◌else◌, codes, List, Result, Ok}
 use Rattle.part_geometry.specs.declared.answers.StartFault.{StartFault}
 use Rattle.part_geometry.specs.Shape.{Shape}
-use Rattle.part_api.specs.declared.request.Side.{Side}
-use Rattle.part_api.specs.declared.request.Side.TheVariants.{SendSide, RecvSide}
+use Rattle.part_geometry.specs.declared.answers.Side.{Side}
+use Rattle.part_geometry.specs.declared.answers.Side.TheVariants.{SendSide, RecvSide}
 use Rattle.part_api.specs.States.{start_told, state_started, state_sent, state_received, free_answer, state_freed}
 use Rattle.plain_pair.specs.Record.{Record}
 use Rattle.plain_pair.specs.Moves.{start_send_answer, after_start_send, start_recv_answer, after_start_recv, pready_answer, after_pready, parrived_answer, take_answer, after_take, gave_back, test_send_answer, after_test_send, test_recv_answer, after_test_recv}

@@ -4,8 +4,8 @@ use Rattle.std.specs.FinSet as parts
 use Rattle.part_geometry.specs.Shape.{Shape}
 use Rattle.part_api.specs.declared.request.ReqState.{ReqState}
 use Rattle.part_api.specs.declared.request.ReqState.TheVariants as state
-use Rattle.part_api.specs.declared.request.Side.{Side}
-use Rattle.part_api.specs.declared.request.Side.TheVariants.{SendSide, RecvSide}
+use Rattle.part_geometry.specs.declared.answers.Side.{Side}
+use Rattle.part_geometry.specs.declared.answers.Side.TheVariants.{SendSide, RecvSide}
 use Rattle.plain_pair.specs.Record.{Record, first_record}
 
 pub record Desk : Type 0 where

@@ -1,7 +1,7 @@
 -- What the answers of a pair say of its rounds.
 use Rattle.std.specs.Prelude.{◌≡◌, ℕ, Ok}
 use Rattle.part_geometry.specs.Shape.{Shape}
-use Rattle.part_api.specs.declared.request.Side.TheVariants.{RecvSide}
+use Rattle.part_geometry.specs.declared.answers.Side.TheVariants.{RecvSide}
 use Rattle.plain_pair.specs.Moves.{take_answer}
 use Rattle.plain_pair.specs.Record.{round_of, bytes_of}
 use Rattle.plain_pair.specs.Taken.{Taken}

@@ -10,6 +10,3 @@ pub use action::is_wrong_side;
 pub use held::MatchedPair;
 pub use laws::answer_laws;
 pub use texts::closed;
-
-#[cfg(test)]
-mod tests;

@@ -2,3 +2,4 @@ pub mod Zips
 pub mod Slots
 pub mod Steps
 pub mod Reports
+pub mod Matching

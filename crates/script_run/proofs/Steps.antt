@@ -5,14 +5,15 @@ use Rattle.std.specs.Prelude.{slice_get}
 use Rattle.std.proofs.lemmas.List.{length-map}
 use Rattle.std.proofs.Math.ListN.{length-append}
 use Rattle.std.proofs.lemmas.Option.{slice_get_past}
+use Rattle.init_match.specs.declared.TheConstants.{MAX_VOLUME}
 use Rattle.init_match.specs.declared.answers.InitFault.{InitFault}
 use Rattle.init_match.specs.declared.answers.InitFault.TheVariants.{NoMemory, WorldFull}
 use Rattle.init_match.specs.declared.answers.Matched.{Matched}
 use Rattle.init_match.specs.Calls.{total}
 use Rattle.init_match.specs.Matching.{completed_by, pairs_of}
 use Rattle.init_match.specs.World.{WorldState, matched_as, matched_pairs, send_call, recv_call, number_fault, size_fault, volume}
-use Rattle.part_api.specs.declared.request.Side.{Side}
-use Rattle.part_api.specs.declared.request.Side.TheVariants.{SendSide, RecvSide}
+use Rattle.part_geometry.specs.declared.answers.Side.{Side}
+use Rattle.part_geometry.specs.declared.answers.Side.TheVariants.{SendSide, RecvSide}
 use Rattle.script_text.specs.declared.call.Action.{Action}
 use Rattle.script_text.specs.declared.call.Call.{Call}
 use Rattle.script_text.specs.declared.call.Call.TheVariants.{Send, Recv, Request}
@@ -53,9 +54,9 @@ ok_slot None None false f n slot is = cc
 
 pub slot_is : (w : WorldState) (side : Side) (i : Init) (slot : ℕ) → Ok slot ≡ world_answer w side i → slot ≡ length w.calls
 slot_is w SendSide i slot is = let c = send_call i.from i.to i.tag i.comm i.parts i.bytes in
-    ok_slot (number_fault w.ranks c) (size_fault (completed_by w.calls c)) (nat_lt 67108864 (volume w.calls + total c)) (WorldFull (volume w.calls + total c)) (length w.calls) slot is
+    ok_slot (number_fault w.ranks c) (size_fault (completed_by w.calls c)) (nat_lt MAX_VOLUME (volume w.calls + total c)) (WorldFull (volume w.calls + total c)) (length w.calls) slot is
 slot_is w RecvSide i slot is = let c = recv_call i.from i.to i.tag i.comm i.parts i.bytes in
-    ok_slot (number_fault w.ranks c) (size_fault (completed_by w.calls c)) (nat_lt 67108864 (volume w.calls + total c)) (WorldFull (volume w.calls + total c)) (length w.calls) slot is
+    ok_slot (number_fault w.ranks c) (size_fault (completed_by w.calls c)) (nat_lt MAX_VOLUME (volume w.calls + total c)) (WorldFull (volume w.calls + total c)) (length w.calls) slot is
 
 pub not_no_memory : (a : Result ℕ InitFault) → is_no_memory a ≡ false → a ≢ Err NoMemory
 not_no_memory a differs is = let e : is_no_memory a ≡ true = rw is refl in absurd (cc)

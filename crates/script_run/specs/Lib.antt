@@ -4,3 +4,4 @@ pub mod Run
 pub mod Names
 pub mod Pairs
 pub mod Running
+pub mod Laws

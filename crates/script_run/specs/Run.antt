@@ -5,8 +5,8 @@ use Rattle.init_match.specs.declared.answers.InitFault.{InitFault}
 use Rattle.init_match.specs.declared.answers.InitFault.TheVariants.{NoMemory}
 use Rattle.init_match.specs.declared.answers.Matched.{Matched}
 use Rattle.init_match.specs.World.{WorldState, send_call, recv_call, init_answer, after_init, matched_pairs}
-use Rattle.part_api.specs.declared.request.Side.{Side}
-use Rattle.part_api.specs.declared.request.Side.TheVariants.{SendSide, RecvSide}
+use Rattle.part_geometry.specs.declared.answers.Side.{Side}
+use Rattle.part_geometry.specs.declared.answers.Side.TheVariants.{SendSide, RecvSide}
 use Rattle.plain_pair.specs.Closing.{closed_answer}
 use Rattle.script_pair.specs.Answers.{is_wrong_side, answer, after}
 use Rattle.script_pair.specs.Desk.{first_desk}

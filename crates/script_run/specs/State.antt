@@ -2,7 +2,7 @@
 use Rattle.std.specs.Prelude.{◌≡◌, ℕ, Bool, true, false, bytes_eq, List, [], length, Option, Some, None}
 use Rattle.std.specs.List.{position_from}
 use Rattle.init_match.specs.World.{WorldState}
-use Rattle.part_api.specs.declared.request.Side.{Side}
+use Rattle.part_geometry.specs.declared.answers.Side.{Side}
 use Rattle.part_geometry.specs.Shape.{Shape}
 use Rattle.script_pair.specs.Desk.{Desk}
 use Rattle.script_text.specs.Script.{World}

@@ -4,7 +4,6 @@ use Rattle.script_text.specs.Words.{◌>>=◌, number_of, name_of, bytes_of, num
 use Rattle.script_text.specs.declared.call.Init.{Init}
 use Rattle.script_text.specs.declared.call.Call.{Call}
 use Rattle.script_text.specs.declared.call.Call.TheVariants.{Send, Recv, Request}
-use Rattle.script_text.specs.declared.call.Action.{Action}
 use Rattle.script_text.specs.declared.call.Action.TheVariants.{Start, Ready, ReadyRange, ReadyList, Arrived, Take, Back, Test, Free}
 
 -- the words behind `send` and `recv`

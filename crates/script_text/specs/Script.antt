@@ -1,5 +1,7 @@
 -- What a text says as a whole: a script, or the first fault by lines.
 use Rattle.std.specs.Prelude.{◌≡◌, ℕ, ◌<◌, Bool, true, false, ◌&&◌, bytes_eq, codes, if◌then◌else◌, List, [], ◌∷◌, drop, Option, Some, None, Result, Ok, Err}
+use Rattle.part_geometry.specs.declared.TheConstants.{MAX_GRAIN, MAX_DEPTH}
+use Rattle.script_text.specs.declared.TheConstants.{MAX_RANKS}
 use Rattle.script_text.specs.Words.{◌>>=◌, when, is_within, number_of}
 use Rattle.script_text.specs.Lines.{Sentence, sentences_of, words_at, HasLine}
 use Rattle.script_text.specs.Calls.{call_of}
@@ -15,7 +17,7 @@ pub record World : Type 0 where
 
 -- they are within their limits
 abbrev pub is_world : World → Bool
-is_world w = is_within 1 64 w.ranks && is_within 1 16777216 w.grain && is_within 1 4 w.depth
+is_world w = is_within 1 MAX_RANKS w.ranks && is_within 1 MAX_GRAIN w.grain && is_within 1 MAX_DEPTH w.depth
 
 abbrev pub within_limits : World → Option World
 within_limits w = when (is_world w) w

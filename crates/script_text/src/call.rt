@@ -9,7 +9,7 @@ use std::alloc::{AllocError, Global};
 use std::marker::Model;
 
 /// The name of a request: 1 to 16 ASCII letters, digits or `_`. Contracts see its bytes.
-#[derive(Debug, Drop)]
+#[derive(Drop)]
 pub struct Name {
     letters: ArrayVec<u8, 16>,
 }
@@ -48,7 +48,7 @@ impl Name {
 }
 
 /// The bytes that a line writes. Contracts see the list of them.
-#[derive(Debug, Drop)]
+#[derive(Drop)]
 pub struct Bytes {
     bytes: Vec<u8>,
 }
@@ -82,7 +82,7 @@ impl Bytes {
 }
 
 /// The partitions that a line lists. Contracts see the list of them.
-#[derive(Debug, Drop)]
+#[derive(Drop)]
 pub struct Parts {
     numbers: Vec<u32>,
 }
@@ -117,7 +117,7 @@ impl Parts {
 
 /// What a `send` or a `recv` line says: the name and the place of one side of a message, and how this side
 /// divides it.
-#[derive(Debug, Drop)]
+#[derive(Drop)]
 pub struct Init {
     /// The name of the request.
     pub name: Name,
@@ -136,7 +136,7 @@ pub struct Init {
 }
 
 /// What is done with a request. A number is any of 32 bits: what it may be is the called function's to say.
-#[derive(Debug, Drop)]
+#[derive(Drop)]
 pub enum Action {
     /// `start`: it begins its next round (`MPI_Start`, MPI 4.0, 3.9).
     Start,
@@ -178,7 +178,7 @@ pub enum Action {
 }
 
 /// What a line of a script calls, between `world` and `end`.
-#[derive(Debug, Drop)]
+#[derive(Drop)]
 pub enum Call {
     /// `send`: the sender's side of a message (`MPI_Psend_init`, MPI 4.0, 4.2.1).
     Send(Init),

@@ -13,5 +13,8 @@ pub use call::{Action, Bytes, Call, Init, Name, Parts};
 pub use fault::ScriptFault;
 pub use script::{Limits, Script, parse_script};
 
-#[cfg(test)]
-mod tests;
+/// The most bytes of a script.
+pub const MAX_SCRIPT_BYTES: usize = 1_048_576;
+
+/// The most ranks of a script's world.
+pub const MAX_RANKS: u32 = 64;

@@ -1,30 +1,24 @@
 //! Scripts, and the reading of a whole text.
 
-ghost use Rattle.std.specs.Prelude.{◌≡◌, ◌≢◌, ◌≤◌, true, [], ◌∷◌, length, IfOk, IfErr, OnOk};
+ghost use Rattle.std.specs.Prelude.{◌≡◌, ◌≢◌, ◌+◌, ◌≤◌, true, [], ◌∷◌, length, IfOk, IfErr, OnOk};
+ghost use Rattle.script_text.specs.declared.TheConstants.{MAX_SCRIPT_BYTES};
 ghost use Rattle.script_text.specs.Lines.{texts, sentences_from};
 ghost use Rattle.script_text.specs.Script.{is_world, within_limits, world_of, is_end, contents_of, script_of, IsFaultOf};
 ghost use Rattle.script_text.specs.Reading.{body_of, whole_of, Begins, Goes, IsFault, GoesLine, IsLineFault};
 
+use crate::MAX_RANKS;
 use crate::call::Call;
 use crate::fault::ScriptFault;
 use crate::lines::{is_skipped, split, without_return, words};
 use crate::reading::call;
 use crate::words::number;
+use part_geometry::{MAX_DEPTH, MAX_GRAIN};
 use std::alloc::Global;
 use std::marker::Model;
 
-/// The most ranks.
-const MAX_RANKS: u32 = 64;
-
-/// The greatest grain.
-const MAX_GRAIN: u32 = 16_777_216;
-
-/// The most rounds in flight.
-const MAX_DEPTH: u32 = 4;
-
 /// The numbers of a script's world, within their limits: 1 to 64 ranks, a grain of 1 to 16,777,216 bytes, and a
 /// depth of 1 to 4 rounds.
-#[derive(Debug, Drop)]
+#[derive(Drop)]
 pub struct Limits {
     ranks: u32,
     grain: u32,
@@ -105,7 +99,7 @@ impl Limits {
 }
 
 /// A script that was read. Contracts see its world, and the list of its calls up to `end`.
-#[derive(Debug, Drop)]
+#[derive(Drop)]
 pub struct Script {
     limits: Limits,
     calls: Vec<Call>,
@@ -240,7 +234,7 @@ fn read_line(
 
 /// Reads lines, the first of which has the number 1.
 fn read_lines(alloc: Global, lines: &[&[u8]]) -> Result<Option<Body>, ScriptFault>
-    requires { length lines.now ≤ 1048577 }
+    requires { length lines.now ≤ MAX_SCRIPT_BYTES + 1 }
     ensures read { IfOk result (λ body. whole_of body [] ≡ contents_of (sentences_from 1 (texts lines.now))) }
     ensures fault { IfErr result (λ fault. fault ≢ ScriptFault.NoMemory → contents_of (sentences_from 1 (texts lines.now)) ≡ Err fault) }
 {
@@ -269,7 +263,7 @@ fn finish(body: Option<Body>) -> Result<Script, ScriptFault>
 
 /// The script that a text is, or else its first fault.
 fn read_text(alloc: Global, bytes: &[u8]) -> Result<Script, ScriptFault>
-    requires { length bytes.now ≤ 1048576 }
+    requires { length bytes.now ≤ MAX_SCRIPT_BYTES }
     ensures script { IfOk result (λ script. script_of bytes.now ≡ Ok script) }
     ensures fault { IfErr result (λ fault. fault ≢ ScriptFault.NoMemory → script_of bytes.now ≡ Err fault) }
 {
@@ -282,7 +276,7 @@ fn read_text(alloc: Global, bytes: &[u8]) -> Result<Script, ScriptFault>
 /// and so is one that begins with `#`. The time grows linearly with the text. `NoMemory` may be answered in place of
 /// any other answer.
 pub fn parse_script(alloc: Global, bytes: &[u8]) -> Result<Script, ScriptFault>
-    requires { length bytes.now ≤ 1048576 }
+    requires { length bytes.now ≤ MAX_SCRIPT_BYTES }
     ensures script { IfOk result (λ script. script_of bytes.now ≡ Ok script) }
     ensures fault { IfErr result (λ fault. fault ≢ ScriptFault.NoMemory → script_of bytes.now ≡ Err fault) }
     ensures line { IfErr result (IsFaultOf bytes.now) }

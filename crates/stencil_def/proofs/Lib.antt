@@ -1,3 +1,4 @@
 pub mod SquareFacts
 pub mod SumFacts
 pub mod StepFacts
+pub mod FoldFacts

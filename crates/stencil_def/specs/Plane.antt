@@ -1,7 +1,9 @@
 -- A grid as contracts see it, and the limits that it keeps.
-use Rattle.std.specs.Prelude.{◌≡◌, ℕ, ◌+◌, ◌*◌, ◌≤◌, ℤ, pos, List, length, take, drop, replicate, slice_index_or, slice_set}
+use Rattle.std.specs.Prelude.{◌≡◌, ℕ, ◌+◌, ◌*◌, ◌≤◌, ℤ, pos, List, length, take, drop, replicate, slice_index_or}
+use Rattle.std.specs.Prelude.{slice_set}
 use Rattle.std.specs.List.{All}
-use Rattle.stencil_def.specs.Limits.{IsWithin, IsValue}
+use Rattle.stencil_def.specs.Limits.{IsSide, IsValue}
+use Rattle.stencil_def.specs.declared.limits.TheConstants.{MAX_CELLS}
 
 -- how many rows and columns there are, and the values row by row
 pub record Plane : Type 0 where
@@ -11,9 +13,9 @@ pub record Plane : Type 0 where
 
 -- the limits of a grid
 pub record IsPlane (g : Plane) : Type 0 where
-  pub rows : IsWithin 1 4096 g.rows
-  pub cols : IsWithin 1 4096 g.cols
-  pub cells : g.rows * g.cols ≤ 1000000
+  pub rows : IsSide g.rows
+  pub cols : IsSide g.cols
+  pub cells : g.rows * g.cols ≤ MAX_CELLS
   pub length : length g.values ≡ g.rows * g.cols
   pub values : All IsValue g.values
 

@@ -3,7 +3,7 @@ use Rattle.std.specs.Prelude.{◌≡◌, ℕ, ◌+◌, ◌*◌, ◌==◌, if◌t
 use Rattle.std.specs.List.{All, range_with_len}
 use Rattle.stencil_def.specs.Limits.{IsWithin, IsWeight}
 
--- how far the weights reach in each direction, and 25 values: the weights row by row, and zeros behind them
+-- how far the weights reach in each direction, and 25 values, of which the first are the weights row by row
 pub record Square : Type 0 where
   pub reach : ℕ
   pub values : List ℤ

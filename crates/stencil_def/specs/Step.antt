@@ -1,7 +1,9 @@
 -- A step of the stencil: what a cell of the next grid is, and the grid after any number of steps.
-use Rattle.std.specs.Prelude.{ℕ, zero, suc, ◌+◌, ◌-◌, ◌*◌, ◌/◌, ◌%◌, nat_lt, if◌then◌else◌, ℤ, pos, negsuc, ◌+ℤ◌, ◌-ℤ◌, ◌*ℤ◌, int_div, Option, Some, None, map}
+use Rattle.std.specs.Prelude.{ℕ, zero, suc, ◌+◌, ◌-◌, ◌*◌, ◌/◌, ◌%◌, nat_lt, if◌then◌else◌, ℤ, pos, negsuc, neg_ℤ, ◌+ℤ◌}
+use Rattle.std.specs.Prelude.{◌-ℤ◌, ◌*ℤ◌, int_div, Option, Some, None, map}
 use Rattle.std.specs.Int.{int_max, int_min}
 use Rattle.std.specs.List.{range_with_len}
+use Rattle.stencil_def.specs.declared.limits.TheConstants.{MAX_VALUE}
 use Rattle.stencil_def.specs.declared.rule.Around.{Around}
 use Rattle.stencil_def.specs.declared.rule.Around.TheVariants.{Fixed, Wrap}
 use Rattle.stencil_def.specs.declared.rule.Rule.{Rule}
@@ -44,7 +46,7 @@ window_sum g rule row col =
 
 -- the nearest number from -10^12 to 10^12
 abbrev pub clamped : ℤ → ℤ
-clamped z = int_max (negsuc 999999999999) (int_min z (pos 1000000000000))
+clamped z = int_max (neg_ℤ MAX_VALUE) (int_min z MAX_VALUE)
 
 -- the new value of a cell: the sum over the window, divided with truncation toward zero, and clamped
 unfoldable pub new_cell : Plane → Rule → ℕ → ℕ → ℤ

@@ -2,20 +2,12 @@
 
 ghost use Rattle.std.specs.Prelude.{◌≡◌, ◌*◌, ◌<◌, ◌≤◌, IfOk, vec_len};
 ghost use Rattle.std.specs.List.{All};
-ghost use Rattle.stencil_def.specs.Limits.{IsWithin, IsValue};
+ghost use Rattle.stencil_def.specs.Limits.{IsSide, IsValue};
 ghost use Rattle.stencil_def.specs.Plane.{IsPlane, cell, row_of, zero_plane, with_cell, plane_of};
 
+use crate::MAX_CELLS;
 use std::alloc::{AllocError, Global};
 use std::marker::Model;
-
-/// The most rows of a grid, and the most columns.
-pub const MAX_SIDE: u32 = 4096;
-
-/// The most cells of a grid.
-pub const MAX_CELLS: u32 = 1_000_000;
-
-/// The greatest value of a cell. The least is its negative.
-pub const MAX_VALUE: i64 = 1_000_000_000_000;
 
 /// A grid of 1 to 4,096 rows and 1 to 4,096 columns, with at most 1,000,000 cells, each from -10^12 to 10^12.
 /// Rows and columns are numbered from 0. Contracts see a `Plane`.
@@ -47,9 +39,9 @@ impl Model for Grid {
 impl Grid {
     /// The grid of this many rows and columns with 0 in each cell.
     pub fn zeros(alloc: Global, rows: u32, cols: u32) -> Result<Grid, AllocError>
-        requires rows { IsWithin 1 4096 rows }
-        requires cols { IsWithin 1 4096 cols }
-        requires cells { rows * cols ≤ 1000000 }
+        requires rows { IsSide rows }
+        requires cols { IsSide cols }
+        requires cells { rows * cols ≤ MAX_CELLS }
         ensures zeros { IfOk result (λ grid. grid ≡ zero_plane rows cols) }
         ensures limits { IfOk result IsPlane }
     {
@@ -59,9 +51,9 @@ impl Grid {
 
     /// The grid of this many rows and columns with these values, row by row. It takes no memory.
     pub fn from_values(rows: u32, cols: u32, values: Vec<i64>) -> Grid
-        requires rows { IsWithin 1 4096 rows }
-        requires cols { IsWithin 1 4096 cols }
-        requires cells { rows * cols ≤ 1000000 }
+        requires rows { IsSide rows }
+        requires cols { IsSide cols }
+        requires cells { rows * cols ≤ MAX_CELLS }
         requires length { vec_len values ≡ rows * cols }
         requires values { All IsValue values.items }
         ensures value { result ≡ plane_of rows cols values.items }

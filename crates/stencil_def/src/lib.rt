@@ -2,13 +2,13 @@
 #![tactic(auto)]
 
 mod grid;
+mod limits;
 mod rule;
 mod step;
-#[cfg(test)]
-mod tests;
 mod weights;
 
-pub use grid::{Grid, MAX_CELLS, MAX_SIDE, MAX_VALUE};
-pub use rule::{Around, MAX_DIV, Rule};
-pub use step::{run_plain, step_plain};
-pub use weights::{MAX_WEIGHT, Weights};
+pub use grid::Grid;
+pub use limits::{MAX_CELLS, MAX_DIV, MAX_SIDE, MAX_VALUE, MAX_WEIGHT};
+pub use rule::{Around, Rule};
+pub use step::{place_at, run_plain, step_plain};
+pub use weights::Weights;

@@ -4,11 +4,8 @@ ghost use Rattle.stencil_def.specs.Limits.{IsDiv, IsValue};
 
 use crate::Weights;
 
-/// The greatest divisor of a rule. The least is 1.
-pub const MAX_DIV: i64 = 1_000_000;
-
 /// What lies outside the grid.
-#[derive(Clone, Copy, Debug, PartialEq, Eq)]
+#[derive(Clone, Copy)]
 pub enum Around {
     /// The edge, one value everywhere.
     Fixed,
@@ -17,7 +14,7 @@ pub enum Around {
 }
 
 /// How a cell's new value follows from the values round it.
-#[derive(Clone, Copy, Debug, PartialEq, Eq)]
+#[derive(Clone, Copy)]
 pub struct Rule {
     /// The weights, whose middle one meets the cell itself.
     pub weights: Weights,

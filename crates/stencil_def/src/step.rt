@@ -4,14 +4,15 @@ ghost use Rattle.std.specs.Prelude.{◌≡◌, ℕ, ◌+◌, ◌-ℤ◌, ◌<◌
 ghost use Rattle.stencil_def.specs.Limits.{IsValue};
 ghost use Rattle.stencil_def.specs.Plane.{IsPlane, cell};
 ghost use Rattle.stencil_def.specs.Square.{side};
-ghost use Rattle.stencil_def.specs.Step.{place, read, sum_below, weighted, window_sum, new_cell, next_plane, fold_plane};
+ghost use Rattle.stencil_def.specs.Step.{place, read, sum_below, weighted, window_sum, new_cell, next_plane};
+ghost use Rattle.stencil_def.specs.Step.{fold_plane};
 
-use crate::grid::MAX_VALUE;
-use crate::{Around, Grid, Rule};
+use crate::{Around, Grid, MAX_VALUE, Rule};
 use std::alloc::{AllocError, Global};
 
-/// Which of `size` rows or columns stands at the whole number `at`.
-fn place_at(around: Around, size: u32, at: i64) -> Option<u32>
+/// Which of `size` rows or columns stands at the whole number `at`, which may lie outside the grid: with
+/// `Around::Fixed` none does there, and with `Around::Wrap` the one that comes there when the grid begins again.
+pub fn place_at(around: Around, size: u32, at: i64) -> Option<u32>
     requires { 0 < size }
     ensures value { result ≡ place around size at }
     ensures inside { IfSome result (λ i. i < size) }

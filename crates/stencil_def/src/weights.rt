@@ -7,11 +7,8 @@ ghost use Rattle.stencil_def.specs.Square.{side, weight, square_of};
 
 use std::marker::Model;
 
-/// The greatest weight. The least is its negative.
-pub const MAX_WEIGHT: i64 = 1000;
-
 /// Weights of 3 rows and columns or of 5, each weight from -1,000 to 1,000. Contracts see a `Square`.
-#[derive(Clone, Copy, Debug, PartialEq, Eq)]
+#[derive(Clone, Copy)]
 pub struct Weights {
     reach: u32,
     values: [i64; 25],

@@ -5,7 +5,8 @@ use Rattle.stencil_words.specs.declared.words.Source.{Source}
 use Rattle.stencil_words.specs.declared.words.Source.TheVariants as source
 use Rattle.stencil_top.specs.Words.{Command, Script, Stencil, source_file, file_of}
 use Rattle.stencil_top.specs.Outcome.{Texts, Outcome, Ends, EndsWith, IsStencilOutput, answered, noted, texts_in, limit_of, read_of, ◌>>=◌, answers_to, script_output, inputs_in, inputs_of, made_with}
-use Rattle.stencil_top.specs.Run.{Files, AreIn, IsNoted, Gives, ReadsFile, RunsScript, Finds}
+use Rattle.stencil_top.specs.Run.{Files, AreIn, IsNoted}
+use Rattle.stencil_top.specs.Steps.{Gives, ReadsFile, RunsScript, Finds}
 use Rattle.stencil_top.specs.declared.note.TextName.{TextName}
 use Rattle.stencil_top.specs.declared.note.TextName.TheVariants as text
 use Rattle.stencil_top.specs.declared.note.Note.{Note}

@@ -6,7 +6,8 @@ use Rattle.stencil_words.specs.declared.words.Source.{Source}
 use Rattle.stencil_words.specs.declared.words.Source.TheVariants as source
 use Rattle.stencil_top.specs.Words.{source_file}
 use Rattle.stencil_top.specs.Outcome.{texts_in, limit_of, read_of, ◌>>=◌, inputs_in, inputs_of, made_with}
-use Rattle.stencil_top.specs.Run.{Files, AreIn, ReadsFile, Makes, Finds}
+use Rattle.stencil_top.specs.Run.{Files, AreIn}
+use Rattle.stencil_top.specs.Steps.{ReadsFile, Makes, Finds}
 use Rattle.stencil_top.specs.declared.note.TextName.{TextName}
 use Rattle.stencil_top.specs.declared.note.TextName.TheVariants as text
 use Rattle.stencil_top.specs.declared.note.Note.{Note}

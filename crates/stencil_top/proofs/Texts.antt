@@ -7,7 +7,8 @@ use Rattle.part_io.specs.Causes.{Rose}
 use Rattle.part_io.specs.Shelf.{Reads}
 use Rattle.part_io.specs.declared.answers.ReadAnswer.TheVariants as answer
 use Rattle.stencil_top.specs.Outcome.{Texts, limit_of, read_of}
-use Rattle.stencil_top.specs.Run.{Files, Needs, IsUnread, FindsText, ReadsFile, Makes, Comes}
+use Rattle.stencil_top.specs.Run.{Files, Needs, IsUnread}
+use Rattle.stencil_top.specs.Steps.{FindsText, ReadsFile, Makes, Comes}
 use Rattle.stencil_top.specs.declared.note.TextName.{TextName}
 use Rattle.stencil_top.specs.declared.note.TextName.TheVariants as text
 use Rattle.stencil_top.specs.declared.note.Note.{Note}

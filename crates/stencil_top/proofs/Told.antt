@@ -1,5 +1,5 @@
 -- A run whose files are told ends with the outcome that its command has with them, where nothing failed.
-use Rattle.std.proofs.Common.{◌≡◌, ◌≢◌, ◌⊎◌, inl, inr, ℕ, List, [], Option, Some, None, Result, Ok, Err, IfSome, refl, sym, ap, ◌∙◌, subst}
+use Rattle.std.proofs.Common.{◌≡◌, ◌≢◌, ◌⊎◌, inl, inr, ℕ, List, [], Option, Some, None, Result, Ok, Err, IfSome, IsSome, refl, sym, ap, ◌∙◌, subst, arith}
 use Rattle.std.proofs.lemmas.List.{append-nil}
 use Rattle.part_io.specs.Causes.{Rose}
 use Rattle.part_io.specs.Sink.{Adds}
@@ -8,7 +8,7 @@ use Rattle.script_text.specs.declared.fault.ScriptFault.TheVariants as script_fa
 use Rattle.stencil_top.specs.Words.{Command, Script, Stencil, file_of}
 use Rattle.stencil_top.specs.Note.{status_of, note_text, Notes}
 use Rattle.stencil_top.specs.Outcome.{Outcome, Ends, EndsWith, IsStencilOutput, noted, texts_in, inputs_of, script_output}
-use Rattle.stencil_top.specs.Run.{Files, Explains, IsNoted, IsCause, EndsAsTold}
+use Rattle.stencil_top.specs.Run.{Files, Explains, IsNoted, IsCause, EndsAsTold, NeedsNone}
 use Rattle.stencil_top.specs.declared.note.Note.{Note}
 use Rattle.stencil_top.specs.declared.note.Note.TheVariants.{Usage, TooLong, BadScript, BadText, CannotRead, CannotWrite, OutOfMemory}
 use Rattle.stencil_top.specs.declared.status.Status.{Status}
@@ -120,3 +120,50 @@ pub told : (files : Files) (command : Option Command) (WriteFailed : Type 0) (ca
 told None command W cause status out out' line line' b n b' n' status_is is write nothing notes = tt
 told (Some held) command W cause status out out' line line' b n b' n' status_is is write nothing notes = λ no_read no_write.
     told_cause command held W cause status out out' line line' b n b' n' status_is is write nothing notes no_read no_write
+
+abbrev no_file : List ℕ → Option (List ℕ)
+no_file name = None
+
+unneeded : (needs : Option (List ℕ)) → needs ≡ None → IsSome needs → ⊥
+unneeded needs none some = not_true (subst IsSome none some)
+
+-- a command that needs no file has its outcome over any shelf
+explained_alone : (command : Option Command) (files : Files) (Says : Outcome → Type 0) → NeedsNone (file_of command)
+    → Explains command files Says → Explains command (Some no_file) Says
+explained_alone command files Says none x = record {
+  texts = x.texts;
+  end = x.end;
+  found = λ which needed. absurd (unneeded (file_of command which) (none which) needed);
+  ends = x.ends;
+  says = x.says;
+}
+
+-- and no cause but those that no shelf counts
+cause_alone : (command : Option Command) (files : Files) (cause : Note) (before now : ℕ) → NeedsNone (file_of command)
+    → IsCause cause command files before now → IsCause cause command (Some no_file) 0 0
+cause_alone command files Usage before now none is = is
+cause_alone command files (TooLong w) before now none is = explained_alone command files (λ end. end ≡ noted (TooLong w)) none is
+cause_alone command files (BadScript fault) before now none is = explained_alone command files (λ end. end ≡ noted (BadScript fault)) none is
+cause_alone command files (BadText w fault) before now none is = explained_alone command files (λ end. end ≡ noted (BadText w fault)) none is
+cause_alone command files (CannotRead w) before now none is =
+    let needed : file_of command w ≡ Some is.0.file = is.0.needed in
+    let unneeded : file_of command w ≡ None = none w in
+    absurd (cc)
+cause_alone command files CannotWrite before now none is = explained_alone command files (λ end. end.status ≡ Done) none is
+cause_alone command files OutOfMemory before now none is = tt
+
+pub alone_output : (files : Files) (command : Option Command) (WriteFailed : Type 0) (out out' line : Option (List ℕ)) (count : ℕ)
+    → Explains command files (λ end. (end.status ≡ Done) × Adds out out' end.output) → NeedsNone (file_of command) → ¬ WriteFailed
+    → (Done ≡ NoMemory) ⊎ EndsAsTold command no_file Done out out' line line count count
+alone_output files command W out out' line count x none no_write =
+    told_output (Some no_file) command ⊥ W out out' line count
+    (explained_alone command files (λ end. (end.status ≡ Done) × Adds out out' end.output) none x) (λ never. never) no_write
+
+pub alone : (files : Files) (command : Option Command) (WriteFailed : Type 0) (cause : Note) (status : Status)
+    (out out' line line' : Option (List ℕ)) (before now before' now' : ℕ)
+    → status ≡ status_of cause → IsCause cause command files before' now' → (cause ≡ CannotWrite → WriteFailed)
+    → (cause ≢ CannotWrite → out' ≡ out) → Notes line line' before now (note_text cause) → NeedsNone (file_of command) → ¬ WriteFailed
+    → (status ≡ NoMemory) ⊎ EndsAsTold command no_file status out out' line line' before now
+alone files command W cause status out out' line line' b n b' n' status_is is write nothing notes none no_write =
+    told_cause command no_file W cause status out out' line line' b n 0 0 status_is (cause_alone command files cause b' n' none is)
+    write nothing notes (λ rose. absurd (omega arith)) no_write

@@ -3,3 +3,4 @@ pub mod Status
 pub mod Note
 pub mod Outcome
 pub mod Run
+pub mod Steps

@@ -12,7 +12,8 @@ use Rattle.stencil_top.specs.declared.status.Status.TheVariants as status
 use Rattle.stencil_top.specs.declared.note.TextName.{TextName}
 use Rattle.stencil_top.specs.declared.note.TextName.TheVariants as text
 use Rattle.stencil_top.specs.declared.note.Note.{Note}
-use Rattle.stencil_top.specs.declared.note.Note.TheVariants.{Usage, TooLong, BadScript, BadText, CannotRead, CannotWrite, OutOfMemory}
+use Rattle.stencil_top.specs.declared.note.Note.TheVariants.{Usage, TooLong, BadScript, BadText, CannotRead}
+use Rattle.stencil_top.specs.declared.note.Note.TheVariants.{CannotWrite, OutOfMemory}
 
 -- the status of a run that ends for this cause
 abbrev pub status_of : Note → Status
@@ -44,11 +45,15 @@ at_column row col words = codes " row " ++ decimal row ++ codes " column " ++ de
 
 abbrev pub text_message : TextName → TextFault → List ℕ
 text_message which text_fault.Empty = codes "partstencil: " ++ name_of which ++ codes ": empty"
-text_message which (text_fault.TooLarge row) = codes "partstencil: " ++ name_of which ++ at_row row (codes ": too large")
+text_message which (text_fault.TooLarge row) =
+    codes "partstencil: " ++ name_of which ++ at_row row (codes ": too large")
 text_message which (text_fault.Ragged row) = codes "partstencil: " ++ name_of which ++ at_row row (codes ": ragged")
-text_message which (text_fault.BadWeights row) = codes "partstencil: " ++ name_of which ++ at_row row (codes ": bad shape")
-text_message which (text_fault.BadNumber row col) = codes "partstencil: " ++ name_of which ++ at_column row col (codes ": bad number")
-text_message which (text_fault.OutOfRange row col) = codes "partstencil: " ++ name_of which ++ at_column row col (codes ": out of range")
+text_message which (text_fault.BadWeights row) =
+    codes "partstencil: " ++ name_of which ++ at_row row (codes ": bad shape")
+text_message which (text_fault.BadNumber row col) =
+    codes "partstencil: " ++ name_of which ++ at_column row col (codes ": bad number")
+text_message which (text_fault.OutOfRange row col) =
+    codes "partstencil: " ++ name_of which ++ at_column row col (codes ": out of range")
 text_message which text_fault.NoMemory = out_of_memory
 
 abbrev pub at_line : ℕ → List ℕ → List ℕ

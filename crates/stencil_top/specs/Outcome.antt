@@ -1,5 +1,6 @@
 -- How a run ends, by its words and the texts in its files.
-use Rattle.std.specs.Prelude.{◌≡◌, ℕ, nat_lt, if◌then◌else◌, pos, List, [], ◌∷◌, length, Option, Some, None, option_and_then, Result, Ok, Err}
+use Rattle.std.specs.Prelude.{◌≡◌, ℕ, nat_lt, if◌then◌else◌, pos, List, [], ◌∷◌, length, Option, Some, None}
+use Rattle.std.specs.Prelude.{option_and_then, Result, Ok, Err}
 use Rattle.stencil_def.specs.Plane.{Plane}
 use Rattle.stencil_def.specs.Square.{Square, square_of}
 use Rattle.stencil_def.specs.Step.{fold_plane}

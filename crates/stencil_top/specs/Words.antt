@@ -1,6 +1,8 @@
 -- What the words of a command line ask for.
-use Rattle.std.specs.Prelude.{ℕ, Bool, false, ◌&&◌, ◌==◌, not, bytes_eq, codes, if◌then◌else◌, List, [], ◌∷◌, map, Option, Some, None, Vec, String, string_bytes}
+use Rattle.std.specs.Prelude.{ℕ, ◌&&◌, bytes_eq, codes, if◌then◌else◌, List, [], ◌∷◌, map, Option, Some, None, Vec}
+use Rattle.std.specs.Prelude.{String, string_bytes}
 use Rattle.std.specs.declared.alloc.Global.{Global}
+use Rattle.stencil_words.specs.Options.{is_value}
 use Rattle.stencil_words.specs.Words.{stencil_reading}
 use Rattle.stencil_words.specs.declared.words.StencilWords.{StencilWords}
 use Rattle.stencil_words.specs.declared.words.Source.{Source}
@@ -12,14 +14,9 @@ use Rattle.stencil_top.specs.declared.note.TextName.TheVariants as text
 abbrev pub texts : Vec (String Global) Global → List (List ℕ)
 texts words = map string_bytes words.items
 
--- not empty, and with no `-` at its front
-abbrev pub is_file_name : List ℕ → Bool
-is_file_name [] = false
-is_file_name (first ∷ rest) = not (first == 45)
-
 -- the name of the script's file, where the words are `script` and such a name
 abbrev pub script_reading : List (List ℕ) → Option (List ℕ)
-script_reading (command ∷ name ∷ []) = if bytes_eq command (codes "script") && is_file_name name then Some name else None
+script_reading (command ∷ name ∷ []) = if bytes_eq command (codes "script") && is_value name then Some name else None
 script_reading _ = None
 
 -- a script in a file of this name, or a stencil

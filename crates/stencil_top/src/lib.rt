@@ -12,6 +12,3 @@ mod words;
 pub use note::{Line, Note, TextName, line_of, tell};
 pub use serial::run_serial;
 pub use status::Status;
-
-#[cfg(test)]
-mod tests;

@@ -1,7 +1,8 @@
 //! What a run notes where it ends without its output.
 
 ghost use Rattle.std.specs.Prelude.{◌≡◌, ◌<◌, ◌≤◌, ◌+◌, ◌++◌, length, codes, decimal};
-ghost use Rattle.stencil_top.specs.Note.{status_of, name_of, at_row, at_column, at_line, text_message, script_message, message_of, note_text, Notes};
+ghost use Rattle.stencil_top.specs.Note.{status_of, name_of, at_row, at_column, at_line, text_message, script_message};
+ghost use Rattle.stencil_top.specs.Note.{message_of, note_text, Notes};
 
 use crate::status::Status;
 use arrayvec::ArrayString;
@@ -9,7 +10,6 @@ use grid_text::TextFault;
 use itoa::Buffer;
 use part_io::Sink;
 use script_text::ScriptFault;
-use thiserror::Error;
 
 /// The most bytes of a line of notes.
 const MAX_LINE: usize = 160;
@@ -18,7 +18,7 @@ const MAX_LINE: usize = 160;
 pub type Line = ArrayString<MAX_LINE>;
 
 /// A text that a command reads from a file.
-#[derive(Clone, Copy, Debug, PartialEq, Eq)]
+#[derive(Clone, Copy)]
 pub enum TextName {
     /// The weights of a stencil.
     Weights,
@@ -29,28 +29,21 @@ pub enum TextName {
 }
 
 /// Why a run ends without its output.
-#[derive(Clone, Copy, Debug, PartialEq, Eq, Error)]
+#[derive(Clone, Copy)]
 pub enum Note {
     /// The words are no command line of the program.
-    #[error("the words are no command line")]
     Usage,
     /// The file is longer than such a text may be.
-    #[error("the text is too long")]
     TooLong(TextName),
     /// The script's text is refused.
-    #[error("the script is refused")]
     BadScript(ScriptFault),
     /// The text of a grid or of weights is refused.
-    #[error("the text is refused")]
     BadText(TextName, TextFault),
     /// The file could not be read, or isn't there.
-    #[error("the file could not be read")]
     CannotRead(TextName),
     /// The output could not be written, or not all of it.
-    #[error("the output could not be written")]
     CannotWrite,
     /// Memory ran out.
-    #[error("out of memory")]
     OutOfMemory,
 }
 

@@ -4,8 +4,9 @@ ghost use Rattle.std.specs.Prelude.{◌≡◌, ◌≤◌, Ok, Some, None, length
 ghost use Rattle.grid_text.specs.Reading.{grid_of, weights_of};
 ghost use Rattle.stencil_words.specs.Limits.{IsSize, IsSource};
 ghost use Rattle.stencil_words.specs.declared.words.Source.{Source};
-ghost use Rattle.stencil_top.specs.Outcome.{answers_to, default_weights, inputs_in, inputs_of, limit_of, made_of, made_with, or_bad_text};
-ghost use Rattle.stencil_top.specs.Run.{Finds, KeepsCount, Makes, ReadsFile};
+ghost use Rattle.stencil_top.specs.Outcome.{answers_to, default_weights, inputs_in, inputs_of, limit_of, made_of};
+ghost use Rattle.stencil_top.specs.Outcome.{made_with, or_bad_text};
+ghost use Rattle.stencil_top.specs.Steps.{Finds, KeepsCount, Makes, ReadsFile};
 ghost use Rattle.stencil_top.specs.Words.{source_file};
 
 use crate::note::{Note, TextName};

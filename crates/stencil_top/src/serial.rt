@@ -9,7 +9,8 @@ ghost use Rattle.stencil_top.specs.Note.{status_of, note_text, Notes};
 ghost use Rattle.stencil_top.specs.Outcome.{answers_to};
 ghost use Rattle.stencil_top.specs.declared.note.Note.{Note};
 ghost use Rattle.stencil_top.specs.declared.note.TextName.{TextName};
-ghost use Rattle.stencil_top.specs.Run.{EndsAsTold, Explains, Gives, IsCause, IsUnread, KeepsCount, RunsScript};
+ghost use Rattle.stencil_top.specs.Run.{EndsAsTold, Explains, IsCause, IsUnread, NeedsNone};
+ghost use Rattle.stencil_top.specs.Steps.{Gives, KeepsCount, RunsScript};
 
 use crate::note::{self, Note, TextName};
 use crate::reading::{read_inputs, read_text};
@@ -148,6 +149,13 @@ pub fn run_serial<H: Shelf, K: Sink, N: Sink>(
         → (result ≡ Status.NoMemory) ⊎ EndsAsTold (command_of (texts words.now)) held result
         (K.written out.old) (K.written out.new) (N.written note.old) (N.written note.new)
         (N.faults note.old) (N.faults note.new)) }
+
+    // Where the words name no file, the outcome is the command's over any shelf, or memory ran out.
+    ensures alone { NeedsNone (file_of (command_of (texts words.now))) →
+        ¬ Rose (K.faults out.old) (K.faults out.new)
+        → (result ≡ Status.NoMemory) ⊎ EndsAsTold (command_of (texts words.now)) (λ name. None) result
+        (K.written out.old) (K.written out.new) (N.written note.old) (N.written note.new)
+        (N.faults note.old) (N.faults note.new) }
 
     // What each status says.
     ensures done { result ≡ Status.Done → Explains (command_of (texts words.now)) (H.files shelf.old)

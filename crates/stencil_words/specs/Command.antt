@@ -1,4 +1,4 @@
--- The command as `clap` reads it: seven options, each with its name in full and one value.
+-- The command as `clap` reads it: seven options, each with its name in full and one value. For private functions.
 use Rattle.std.specs.Prelude.{◌≡◌, true, false, List, map, codes, Option, Some, None}
 use Rattle.stencil_words.specs.Options.{Pair, Text, are_sound, names, value}
 use Rattle.stencil_words.specs.Words.{Values}

@@ -1,4 +1,5 @@
 pub mod Options
+pub mod BehindFirst
 pub mod Command
 pub mod Words
 pub mod Limits

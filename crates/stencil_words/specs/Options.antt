@@ -1,6 +1,7 @@
 -- The options in the words of a command line.
-use Rattle.std.specs.Prelude.{◌≡◌, ℕ, ◌==◌, Bool, true, false, ◌&&◌, not, nat_lt, ◌≤◌, bytes_eq, codes, if◌then◌else◌, List, [], ◌∷◌, length, map, find, Option, Some, None, is_some, option_map, option_and_then, String, string_bytes}
-use Rattle.std.specs.Borrow.{Bor}
+use Rattle.std.specs.Prelude.{ℕ, ◌==◌, Bool, true, false, ◌&&◌, not, nat_lt, bytes_eq, codes, if◌then◌else◌, List, []}
+use Rattle.std.specs.Prelude.{◌∷◌, length, map, find, Option, Some, None, option_map, option_and_then, String}
+use Rattle.std.specs.Prelude.{string_bytes}
 use Rattle.std.specs.declared.alloc.Global.{Global}
 use Rattle.std.specs.List.{after_first, before_first, list_any, position_or_len}
 
@@ -54,7 +55,7 @@ joined word = do
   text ← name_part word
   divided text
 
--- a word that may stand as a value behind `--NAME`: it isn't empty, and doesn't begin with `-`
+-- a word that may stand as a value behind `--NAME`, or name a script's file: it isn't empty, and doesn't begin with `-`
 abbrev pub is_value : Text → Bool
 is_value [] = false
 is_value (first ∷ rest) = not (first == 45)
@@ -84,12 +85,6 @@ options_of (word ∷ next ∷ rest) =
 -- the bytes of each word
 abbrev pub texts : List (String Global) → List Text
 texts words = map string_bytes words
-
--- the words behind the option at the front, if one stands there: the words are options where these are
-abbrev pub IsBehindFirst : Text → List (String Global) → Option (Bor (List (String Global))) → Type 0
-IsBehindFirst word after None = is_some (options_of (word ∷ texts after)) ≡ false
-IsBehindFirst word after (Some rest) =
-    (length rest.now ≤ length after) × (is_some (options_of (word ∷ texts after)) ≡ is_some (options_of (texts rest.now)))
 
 -- the names of options
 abbrev pub names : List Text

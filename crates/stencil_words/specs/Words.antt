@@ -1,11 +1,14 @@
 -- What the words of the command `stencil` ask for.
-use Rattle.std.specs.Prelude.{ℕ, ◌*◌, ◌==◌, Bool, ◌&&◌, nat_le, bytes_eq, codes, if◌then◌else◌, ℤ, pos, List, [], ◌∷◌, Option, Some, None, Result, Ok, Err}
+use Rattle.std.specs.Prelude.{ℕ, ◌*◌, ◌==◌, Bool, ◌&&◌, nat_le, bytes_eq, codes, if◌then◌else◌, ℤ, pos, unsigned_abs}
+use Rattle.std.specs.Prelude.{List, [], ◌∷◌, Option, Some, None, Result, Ok, Err}
 use Rattle.std.specs.List.{slice_split}
+use Rattle.stencil_def.specs.declared.limits.TheConstants.{MAX_CELLS, MAX_DIV, MAX_SIDE, MAX_VALUE}
 use Rattle.stencil_def.specs.declared.rule.Around.{Around}
 use Rattle.stencil_def.specs.declared.rule.Around.TheVariants as around
 use Rattle.grid_text.specs.Numbers.{signed_of, unsigned_of, within}
 use Rattle.grid_text.specs.declared.number.NumberFault.{NumberFault}
 use Rattle.stencil_words.specs.Options.{◌>>=◌, Pair, Text, are_sound, options_of, value, when}
+use Rattle.stencil_words.specs.declared.words.TheConstants.{MAX_STEPS}
 use Rattle.stencil_words.specs.declared.words.Size.{Size}
 use Rattle.stencil_words.specs.declared.words.Source.{Source}
 use Rattle.stencil_words.specs.declared.words.Source.TheVariants.{Grid, Make}
@@ -45,9 +48,9 @@ or_default read default (Some text) = read text
 unfoldable pub size_in : Text → Text → Text → Option Size
 size_in seed rows cols = do
   s ← number_in 0 2147483647 seed
-  r ← number_in 1 4096 rows
-  c ← number_in 1 4096 cols
-  when (nat_le (r * c) 1000000) record { seed = s; rows = r; cols = c }
+  r ← number_in 1 MAX_SIDE rows
+  c ← number_in 1 MAX_SIDE cols
+  when (nat_le (r * c) MAX_CELLS) record { seed = s; rows = r; cols = c }
 
 abbrev pub size_of_parts : List Text → Option Size
 size_of_parts (seed ∷ rows ∷ cols ∷ []) = size_in seed rows cols
@@ -86,9 +89,9 @@ source_of given = one_source (given (codes "grid")) (given (codes "make")) (give
 -- what the options say beside that
 unfoldable pub with_source : Values → Source → Option StencilWords
 with_source given source = do
-  steps ← or_default (number_in 0 10000) 1 (given (codes "steps"))
-  div ← or_default (number_in 1 1000000) 1 (given (codes "div"))
-  edge ← or_default (signed_in 1000000000000) (pos 0) (given (codes "edge"))
+  steps ← or_default (number_in 0 MAX_STEPS) 1 (given (codes "steps"))
+  div ← or_default (number_in 1 MAX_DIV) 1 (given (codes "div"))
+  edge ← or_default (signed_in (unsigned_abs MAX_VALUE)) (pos 0) (given (codes "edge"))
   around ← or_default around_of around.Fixed (given (codes "around"))
   Some record { source = source; steps = steps; div = div; edge = edge; around = around }
 

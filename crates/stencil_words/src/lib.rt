@@ -5,10 +5,9 @@ mod command;
 mod file_name;
 mod options;
 mod read;
-#[cfg(test)]
-mod tests;
 mod words;
 
 pub use file_name::FileName;
+pub use options::is_value;
 pub use read::read_words;
-pub use words::{Size, Source, StencilWords};
+pub use words::{MAX_STEPS, Size, Source, StencilWords};

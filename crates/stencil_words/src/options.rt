@@ -1,7 +1,9 @@
 //! The two forms in which words give options.
 
 ghost use Rattle.std.specs.Prelude.{◌≡◌, is_some, option_copied};
-ghost use Rattle.stencil_words.specs.Options.{IsBehindFirst, divided, has_equals, is_value, joined, name_part, options_of, paired, texts, undashed};
+ghost use Rattle.stencil_words.specs.BehindFirst.{IsBehindFirst};
+ghost use Rattle.stencil_words.specs.Options.{divided, has_equals, is_value, joined, name_part, options_of, paired};
+ghost use Rattle.stencil_words.specs.Options.{texts, undashed};
 
 /// A word behind its first byte, where that is a `-`.
 fn undashed(word: &str) -> Option<&str>
@@ -45,8 +47,9 @@ fn has_equals(text: &str) -> bool
     text.split_once('=').is_some()
 }
 
-/// Whether a word may stand as a value behind `--NAME`: it isn't empty, and doesn't begin with `-`.
-fn is_value(word: &str) -> bool
+/// Whether a word may stand as a value behind `--NAME`, and whether it may name a script's file: it isn't empty, and
+/// doesn't begin with `-`.
+pub fn is_value(word: &str) -> bool
     ensures { result ≡ is_value word.now }
 {
     match word.as_bytes() {

@@ -1,18 +1,20 @@
 //! The reading of the words.
 
-ghost use Rattle.std.specs.Prelude.{◌≡◌, ◌==◌, ◌≤◌, IfOk, IfSome, codes, map, option_copied, pos};
+ghost use Rattle.std.specs.Prelude.{◌≡◌, ◌==◌, ◌≤◌, IfOk, IfSome, codes, map, option_copied, pos, unsigned_abs};
 ghost use Rattle.std.specs.List.{slice_split};
 ghost use Rattle.stencil_words.specs.Limits.{IsRead};
 ghost use Rattle.stencil_words.specs.Command.{given_in};
 ghost use Rattle.stencil_words.specs.Options.{texts};
-ghost use Rattle.stencil_words.specs.Words.{around_of, grid_source, made_source, number_in, or_default, reading_of_values, signed_in, size_in, size_of, source_of, stencil_reading, with_source};
+ghost use Rattle.stencil_words.specs.Words.{around_of, grid_source, made_source, number_in, or_default};
+ghost use Rattle.stencil_words.specs.Words.{reading_of_values, signed_in, size_in, size_of, source_of, stencil_reading};
+ghost use Rattle.stencil_words.specs.Words.{with_source};
 
 use crate::command::matches;
 use crate::options::are_options;
-use crate::{FileName, Size, Source, StencilWords};
+use crate::{FileName, MAX_STEPS, Size, Source, StencilWords};
 use clap::ArgMatches;
 use std::alloc::{AllocError, Global};
-use stencil_def::Around;
+use stencil_def::{Around, MAX_CELLS, MAX_DIV, MAX_SIDE, MAX_VALUE};
 
 /// A number of 1 to 19 digits in this range.
 #[tactic(auto, unfolding(crate::specs::Words::number_in))]
@@ -40,10 +42,10 @@ fn number_or(matches: &ArgMatches<'_>, name: &str, low: u32, high: u32, default:
 /// The value outside the grid: that of `--edge`, and else 0.
 #[tactic(auto, unfolding(crate::specs::Words::signed_in))]
 fn edge_of(matches: &ArgMatches<'_>) -> Option<i64>
-    ensures { result ≡ or_default (signed_in 1000000000000) (pos 0) (given_in matches.now (codes "edge")) }
+    ensures { result ≡ or_default (signed_in (unsigned_abs MAX_VALUE)) (pos 0) (given_in matches.now (codes "edge")) }
 {
     match matches.get_str("edge") {
-        Some(text) => grid_text::signed_within(text.as_bytes(), 1_000_000_000_000).ok(),
+        Some(text) => grid_text::signed_within(text.as_bytes(), MAX_VALUE.unsigned_abs()).ok(),
         None => Some(0),
     }
 }
@@ -94,9 +96,9 @@ fn size_in(seed: &[u8], rows: &[u8], cols: &[u8]) -> Option<Size>
     ensures { result ≡ size_in seed.now rows.now cols.now }
 {
     let seed = number_in(0, 2_147_483_647, seed)?;
-    let rows = number_in(1, 4096, rows)?;
-    let cols = number_in(1, 4096, cols)?;
-    if rows * cols > 1_000_000 {
+    let rows = number_in(1, MAX_SIDE, rows)?;
+    let cols = number_in(1, MAX_SIDE, cols)?;
+    if rows * cols > MAX_CELLS {
         return None;
     }
     Some(Size { seed, rows, cols })
@@ -156,8 +158,8 @@ fn source(alloc: Global, matches: &ArgMatches<'_>) -> Result<Option<Source>, All
 fn with_source(matches: &ArgMatches<'_>, source: Source) -> Option<StencilWords>
     ensures { result ≡ with_source (given_in matches.now) source }
 {
-    let steps = number_or(matches, "steps", 0, 10_000, 1)?;
-    let div = number_or(matches, "div", 1, 1_000_000, 1)?;
+    let steps = number_or(matches, "steps", 0, MAX_STEPS, 1)?;
+    let div = number_or(matches, "div", 1, MAX_DIV, 1)?;
     let edge = edge_of(matches)?;
     let around = around_or(matches)?;
     Some(StencilWords {
@@ -187,9 +189,9 @@ fn read_matches(alloc: Global, matches: &ArgMatches<'_>) -> Result<Option<Stenci
 /// first `=` divides it, with a value that isn't empty; or two words `--NAME VALUE`, with a value that isn't empty and
 /// doesn't begin with `-`. Numbers are 1 to 19 decimal digits, with a `-` before them only for `edge`.
 ///
-/// `grid` and `weights` name files. `make` is SEED,ROWS,COLS, with no spaces. Exactly one of `grid` and `make` is given,
-/// and `weights` with `grid`. `steps` is 0 to 10,000, and without it 1; `div` is 1 to 1,000,000, and without it 1; `edge`
-/// is -10^12 to 10^12, and without it 0; `around` is `fixed` or `wrap`, and without it `fixed`.
+/// `grid` and `weights` name files. `make` is SEED,ROWS,COLS, with no spaces. Exactly one of `grid` and `make` is
+/// given, and `weights` with `grid`. `steps` is 0 to 10,000, and without it 1; `div` is 1 to 1,000,000, and without it
+/// 1; `edge` is -10^12 to 10^12, and without it 0; `around` is `fixed` or `wrap`, and without it `fixed`.
 pub fn read_words(alloc: Global, words: &[String]) -> Result<Option<StencilWords>, AllocError>
     ensures reading { IfOk result (λ reading. reading ≡ stencil_reading (texts words.now)) }
     ensures limits { IfOk result (λ reading. IfSome reading IsRead) }

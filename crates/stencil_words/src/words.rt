@@ -3,8 +3,11 @@
 use crate::FileName;
 use stencil_def::Around;
 
+/// The most steps that words may ask for.
+pub const MAX_STEPS: u32 = 10_000;
+
 /// What the generator makes a grid of.
-#[derive(Clone, Copy, Debug, PartialEq, Eq)]
+#[derive(Clone, Copy)]
 pub struct Size {
     /// The first number of the generator, from 0 to 2,147,483,647.
     pub seed: u32,
@@ -15,7 +18,7 @@ pub struct Size {
 }
 
 /// Where the grid comes from.
-#[derive(Debug, Drop)]
+#[derive(Drop)]
 pub enum Source {
     /// From a file, with the file of the weights.
     Grid {
@@ -34,7 +37,7 @@ pub enum Source {
 }
 
 /// What the words of `stencil` ask for.
-#[derive(Debug, Drop)]
+#[derive(Drop)]
 pub struct StencilWords {
     /// Where the grid comes from.
     pub source: Source,

@@ -3,7 +3,7 @@ use Rattle.stencil_def.specs.Limits.{IsWeight}
 use Rattle.stencil_def.specs.Square.{weight}
 use Rattle.stencil_def.proofs.SumFacts.{sum-none, sum-more, sum-small}
 use Rattle.cell_lanes.specs.Mirror.{alike, alike_row_sum}
-use Rattle.cell_lanes.specs.Sizes.{IsPart, IsAlike, IsAlikeSum}
+use Rattle.cell_lanes.specs.Parts.{IsPart, IsAlike, IsAlikeSum}
 use Rattle.cell_lanes.proofs.SplitFacts.{product-alike}
 use Rattle.cell_lanes.proofs.TwoFacts.{two-same, two-all, two-back, each-bits, long-bits, multiplied, added, first-of}
 use Rattle.cell_lanes.proofs.MirrorFacts.{alike_at, alike_below, alike-size}

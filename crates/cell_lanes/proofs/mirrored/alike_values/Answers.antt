@@ -1,6 +1,6 @@
 use Rattle.std.proofs.Common.{◌∙◌, ap, sym, ℕ, ◌+◌, ◌-◌, ◌*◌, ◌≤◌, unsigned_abs, map, to_z, w64, arith}
 use Rattle.cell_lanes.specs.Mirror.{row_alike, alike}
-use Rattle.cell_lanes.specs.Sizes.{IsPart}
+use Rattle.cell_lanes.specs.Parts.{IsPart}
 use Rattle.cell_lanes.proofs.TwoFacts.{two-back, two-same, each-bits, added}
 use Rattle.cell_lanes.proofs.MirrorFacts.{both-before, both-middle, row-alike-size, alike-size}
 use Rattle.cell_lanes.proofs.mirrored.alike_values.Goals as goal

@@ -2,7 +2,7 @@ use Rattle.std.proofs.Common.{◌≡◌, ◌∙◌, ℕ, ◌+◌, ◌*◌, ◌�
 use Rattle.stencil_def.specs.Limits.{IsWithin}
 use Rattle.stencil_def.proofs.SumFacts.{sum-none, sum-more, sum-small}
 use Rattle.cell_lanes.specs.Mirror.{alike_row_sum}
-use Rattle.cell_lanes.specs.Sizes.{IsPart}
+use Rattle.cell_lanes.specs.Parts.{IsPart}
 use Rattle.cell_lanes.specs.Window.{sum_at}
 use Rattle.cell_lanes.proofs.TwoFacts.{two-same, two-all, two-back, each-bits, added}
 use Rattle.cell_lanes.proofs.MirrorFacts.{alike_rows_below, mirrored-sum, window-size}

@@ -1,4 +1,5 @@
 use Rattle.std.proofs.Common.{◌≡◌, ◌∙◌, ◌+◌, ◌-◌, ◌*◌, refl, sym, ap, pos, get_or, take, drop, length, arith}
+use Rattle.std.proofs.lemmas.Nat.{mul-le}
 use Rattle.cell_lanes.specs.Padding.{with_ends}
 use Rattle.cell_lanes.proofs.PaddedFacts.{taken-next, start-is, plane-same}
 use Rattle.cell_lanes.proofs.padded.middle.Goals as goal
@@ -32,3 +33,14 @@ returns-clause-cells c g e f size padded =
     let all : c.args.rows * c.args.cols ≡ c.loop-row.row * g.cols = ap (λ n. n * c.args.cols) (sym last) ∙ ap (λ n. c.loop-row.row * n) (sym f) in
     plane-same g c.loop-row.grid (c.loop-row.invariant.rows ∙ sym e) (c.loop-row.invariant.cols ∙ sym f) (long ∙ sym size)
     (λ k h. c.loop-row.invariant.taken g f padded k (omega (arith, h, long, all)))
+
+-- the row's own cells are among the places
+pub slice_bounds-set_row-end : goal.slice_bounds-set_row-end
+slice_bounds-set_row-end c =
+    let rule = c.args.rule.now in
+    let r = c.reach-reach.ensures.value in
+    let start = start-is rule c.loop-row.row c.reach-reach.result c.args.cols c.args.cols c.start_of.result c.start_of.ensures r refl in
+    let few = c.loop-row-test.true in
+    let m = mul-le (rule.weights.reach + c.loop-row.row + 1) (with_ends rule c.args.cols) (with_ends rule c.args.rows) (with_ends rule c.args.cols) (omega (arith, few)) (omega arith) in
+    let long = c.requires.length in
+    omega (arith, m, start, long, r)

@@ -5,7 +5,8 @@ use Rattle.stencil_def.specs.Limits.{IsValue}
 use Rattle.stencil_def.specs.Plane.{cell}
 use Rattle.cell_lanes.specs.Padding.{IsPadded}
 use Rattle.stencil_def.specs.Step.{fold_plane}
-use Rattle.cell_lanes.proofs.FoldFacts.{fold-rows, fold-cols, fold-length, padded-step, padded-first, length-first, if-ok}
+use Rattle.stencil_def.proofs.FoldFacts.{fold-rows, fold-cols, fold-length}
+use Rattle.cell_lanes.proofs.FoldFacts.{padded-step, padded-first, length-first, if-ok}
 use Rattle.cell_lanes.proofs.run.run_lanes.Goals as goal
 
 pub loop-step-init : goal.loop-step-init

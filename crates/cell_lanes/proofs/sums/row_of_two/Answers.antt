@@ -3,7 +3,7 @@ use Rattle.stencil_def.specs.Limits.{IsWeight, IsValue}
 use Rattle.stencil_def.specs.Square.{weight}
 use Rattle.stencil_def.proofs.SumFacts.{sum-none}
 use Rattle.cell_lanes.specs.Window.{met, row_sum_at}
-use Rattle.cell_lanes.specs.Sizes.{IsPart, IsAlike, IsRowSum}
+use Rattle.cell_lanes.specs.Parts.{IsPart, IsAlike, IsRowSum}
 use Rattle.cell_lanes.proofs.LaneFacts.{product-size}
 use Rattle.cell_lanes.proofs.TwoFacts.{two-same, two-all, two-back, each-bits, long-bits, multiplied, first-of}
 use Rattle.cell_lanes.proofs.WindowFacts.{value-at, row-more, row-next, row_below, product_at, room}

@@ -1,7 +1,8 @@
 use Rattle.std.proofs.Common.{◌≡◌, ◌∙◌, ℕ, ◌+◌, ◌*◌, ◌≤◌, pos, unsigned_abs, sym, ap, subst, arith}
 use Rattle.stencil_def.proofs.SumFacts.{sum-none}
 use Rattle.cell_lanes.specs.Window.{row_sum_at, sum_at}
-use Rattle.cell_lanes.specs.Sizes.{IsSum, IsPart}
+use Rattle.cell_lanes.specs.Parts.{IsPart}
+use Rattle.cell_lanes.specs.Sizes.{IsSum}
 use Rattle.cell_lanes.proofs.TwoFacts.{two-same, two-all, two-back, each-bits}
 use Rattle.cell_lanes.proofs.WindowFacts.{rows-more, rows-next, rows_below}
 use Rattle.cell_lanes.proofs.sums.sums_of_two.Goals as goal

@@ -2,7 +2,7 @@ use Rattle.std.proofs.Common.{◌∙◌, ◌++◌, ◌∷◌, [], ℕ, List, len
 use Rattle.std.specs.Prelude.{Ok}
 use Rattle.std.proofs.lemmas.Result.{err_from_is_err_and}
 use Rattle.csv.specs.Records.{fields_of}
-use Rattle.grid_text.specs.Records.{left_of}
+use Rattle.grid_text.specs.Reader.{left_of}
 use Rattle.grid_text.proofs.RowFacts.{kept-none, text-front}
 use Rattle.grid_text.proofs.rows.read_rows.Goals as goal
 

@@ -1,6 +1,7 @@
 use Rattle.std.proofs.Common.{◌≡◌, ◌++◌, List, ℕ, length}
-use Rattle.grid_text.specs.Reading.{AreKept}
-use Rattle.grid_text.specs.Records.{IsReading, left_of, records_of}
+use Rattle.grid_text.specs.Kept.{AreKept}
+use Rattle.grid_text.specs.Reader.{IsReading, left_of}
+use Rattle.grid_text.specs.Records.{records_of}
 use Rattle.grid_text.proofs.rows.read_rows.Given as goal
 
 abbrev pub invariant-loop-rows : goal.invariant-loop-rows

@@ -1,4 +1,4 @@
-use Rattle.std.proofs.Common.{rules, ◌≡◌, ◌<◌, ◌+◌, ◌*◌, ℕ, length, List, [], ◌∷◌, get_or, ap, ◌∙◌, sym, subst, arith}
+use Rattle.std.proofs.Common.{rules, ◌≡◌, ◌*◌, ℕ, List, [], ◌∷◌, get_or, ap, ◌∙◌, sym, subst}
 use Rattle.std.specs.Mem.Slots.{slots_items}
 use Rattle.atomic_table.specs.Table.{Joins}
 use Rattle.gate_word.specs.Words.{round_in}
@@ -18,11 +18,13 @@ join_seat-requires g c =
     let key = c.args.self.key in let parts = c.into_parts-table.ensures.parts in let limits = c.into_parts-table.ensures.limits in
     let place = c.into_place-place.result in let other = c.into_place.result in
     let mine = ap (λ m. m.0) c.into_place-place.ensures.place.1 in let its = ap (λ m. m.0) c.into_place.ensures.place.1 in
-    let live = c.into_place-place.ensures.live in let live' = c.into_place.ensures.live in
-    (
-      search rules, search rules, ap (λ m. m.1) c.into_place.ensures.place.1 ∙ c.into_place.ensures.idle c.requires.idle.1, search rules,
+    let live = c.into_place-place.ensures.live in let live' = c.into_place.ensures.live in (
+      search rules,
+      search rules,
+      ap (λ m. m.1) c.into_place.ensures.place.1 ∙ c.into_place.ensures.idle c.requires.idle.1,
+      search rules,
       subst (λ k. Joins (Holds g.C.Content.may k) place.id place.me.0 other.id other.me.0 (closed place.me.0 other.me.0) spent) (sym parts.1)
-        (recv_joins g.C.Content.may key (laws key.geometry limits.0) place.id place.me.0 other.id other.me.0
+          (recv_joins g.C.Content.may key (laws key.geometry limits.0) place.id place.me.0 other.id other.me.0
           (ap (λ (d : View). d.standing) mine ∙ live.0) (ap (λ (d : View). d.number) mine ∙ live.1) (ap (λ (d : View). d.standing) its ∙ live'.0) (ap (λ (d : View). d.number) its ∙ live'.1)
           (ap (λ (d : View). d.send.shut) mine ∙ c.requires.idle.0) (ap (λ (d : View). d.send.markers) mine ∙ c.requires.joined.0)
           (ap (λ (d : View). d.recv.released) its ∙ c.requires.idle.1) (ap (λ (d : View). d.recv.watchers) its ∙ c.requires.joined.1)),
@@ -48,12 +50,12 @@ returns-clause-record g c =
     let tables : c.into_parts-table.result.1 ≡ key.geometry = parts.2 in
     let place : c.release_word.result ≡ number key'.geometry Release = c.release_word.ensures.value ∙ ap (λ (z : Shape). number z Release) (tables ∙ sym (ap (λ k. k.geometry) parts.1)) in
     let sent : c.round_of-sent.result ≡ c.args.send.view.send.round = c.round_of-sent.ensures.value
-      ∙ (ap round_in (sym (index_at words 0 c.word.result c.word.ensures)) ∙ (ap (λ (z : List ℕ). round_in (get_or z 0 0)) (sym f.2) ∙ (told.1.sent ∙ ap (λ (d : View). d.send.round) v_is))) in
+    ∙ (ap round_in (sym (index_at words 0 c.word.result c.word.ensures)) ∙ (ap (λ (z : List ℕ). round_in (get_or z 0 0)) (sym f.2) ∙ (told.1.sent ∙ ap (λ (d : View). d.send.round) v_is))) in
     let received : c.round_of-received.result ≡ c.args.recv.view.recv.round = c.round_of-received.ensures.value
-      ∙ (ap round_in (sym (index_at words c.release_word.result c.word-2.result c.word-2.ensures)) ∙ ((λ i. round_in (get_or (sym f.2 i) (place i) 0)) ∙ (told.1.received ∙ ap (λ (d : View). d.recv.round) v_is))) in
+    ∙ (ap round_in (sym (index_at words c.release_word.result c.word-2.result c.word-2.ensures)) ∙ ((λ i. round_in (get_or (sym f.2 i) (place i) 0)) ∙ (told.1.received ∙ ap (λ (d : View). d.recv.round) v_is))) in
     let kept : c.split_seat-kept.result.me.0 ≡ both = ap (λ m. m.0) c.split_seat-kept.ensures.4 ∙ is in
     let rounds : rounds_in c.into_badge.result.views ≡ rounds_of key.geometry c.args.send.view.send.round c.args.send.view.marks =
-      ap rounds_in c.into_badge.ensures.2 ∙ (ap (λ (d : View). rounds_in (d ∷ [])) kept ∙ ap (λ (z : Shape). rounds_of z c.args.send.view.send.round c.args.send.view.marks) c.requires.send.1) in
+    ap rounds_in c.into_badge.ensures.2 ∙ (ap (λ (d : View). rounds_in (d ∷ [])) kept ∙ ap (λ (z : Shape). rounds_of z c.args.send.view.send.round c.args.send.view.marks) c.requires.send.1) in
     let pieces_are : c.pieces.result ≡ pieces key.geometry = c.pieces.ensures.value ∙ ap pieces tables in
     λ i. record {
       geometry = (c.geometry-geometry.ensures.value ∙ tables) i;

@@ -61,9 +61,9 @@ invariant_of-recv g c =
     let shelves : length c.in_ok-shelves.shelves.items ≡ G.recv_parts =
     ap length (c.in_ok-shelves.ensures ∙ ap first_shelves same) ∙ length-map-range_with_len (first_shelf G) 0 G.recv_parts in
     subst (λ (m : Me (Option Buf) View). (m.0.standing ≡ Seated) × (m.0.number ≡ 1) × AreLanes m.0 (length m.1) c.in_ok-lanes.lanes.items
-    × (length c.in_ok-shelves.shelves.items ≡ m.0.geometry.recv_parts))
+    × (length c.in_ok-shelves.shelves.items ≡ m.0.geometry.recv_parts) × (0 ≡ m.0.recv.round))
     (sym me)
-    (refl, refl, subst (AreLanes (receiver (first_view G)) 0) (sym lanes) (first_are_lanes G shape), shelves)
+    (refl, refl, subst (AreLanes (receiver (first_view G)) 0) (sym lanes) (first_are_lanes G shape), shelves, refl)
 
 pub invariant_of-result : goal.invariant_of-result
 invariant_of-result g c =

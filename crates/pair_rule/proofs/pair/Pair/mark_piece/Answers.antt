@@ -1,5 +1,8 @@
 use Rattle.std.proofs.Common.{◌≡◌, ℕ, ◌<◌, ◌≤◌, ◌+◌, ◌-◌, ◌%◌, List, ◌++◌, length, drop, length-append, map, sym, ap, ◌∙◌, subst, arith, Option, Some}
 use Rattle.std.proofs.lemmas.List.{length-map}
+use Rattle.gate_word.specs.Order.{IsLater}
+use Rattle.pair_core.specs.Names.{Piece}
+use Rattle.pair_rule.specs.declared.view.View.{View}
 use Rattle.part_geometry.specs.Shape.{Shape, IsShape}
 use Rattle.part_geometry.specs.Pieces.{pieces, Touches}
 use Rattle.part_tables.specs.Parts.{first_shared, after_shared}
@@ -9,7 +12,7 @@ use Rattle.pair_core.specs.Core.{IsMarker}
 use Rattle.pair_core.proofs.Facts.{touch_part}
 use Rattle.slot_rows.specs.Lists.{row}
 use Rattle.atomic_table.specs.Seated.{TableId}
-use Rattle.pair_rule.specs.Views.{laid}
+use Rattle.pair_rule.specs.Views.{seen, laid}
 use Rattle.pair_rule.specs.Buf.{Buf}
 use Rattle.pair_rule.specs.Rule.{slot_number}
 use Rattle.pair_rule.specs.Seats.{MarkHeld, values}
@@ -90,3 +93,10 @@ returns-clause-step g c x pends =
     c.slot_of-seat-inside.ensures c.place-place.ensures.value (ap (λ z. z.0) c.shared-first.ensures.value) (ap (λ z. z.1) c.shared-first.ensures.value) step.0 in
     (λ j. held_of (c.mark_piece_as-found.ensures.seat.0 j) c.mark_piece_as-found.new.seat.me c.slot_of-seat-inside.result)
     ∙ d.2
+
+pub returns-clause-later : goal.returns-clause-later
+returns-clause-later g c =
+    let f = c.requires.filled in
+    let step = c.mark_piece_as-found.ensures.step f.pending (ap (λ s. s.view.pending) c.seat.view_is ∙ f.pends) in
+    subst (λ (z : ℕ × View). IsLater (seen z.1 (Piece (z.0 % z.1.geometry.depth) c.args.piece)) c.mark_piece_as-found.result)
+    (λ j. (f.round j, (c.seat.view_is j).view)) step.3

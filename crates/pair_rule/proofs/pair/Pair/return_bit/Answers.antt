@@ -27,6 +27,6 @@ invariant_of-seat g c =
     let s = lane_spot me.0 q (length me.1) ls a h in let moved : p ≡ place ls q = ap (λ (z : List Lane). place z q) same in
     let left : length (take p me.1 ++ drop (p + n) me.1) + n ≡ length me.1 =
     let b = length-append (take p me.1) (drop (p + n) me.1) in let t = length-take-le p me.1 (omega arith) in let d = length-drop (p + n) me.1 in omega arith in
-    subst (λ (z : Seat × List Lane). (z.0.0.standing ≡ Seated) × (z.0.0.number ≡ 1) × AreLanes z.0.0 (length z.0.1) z.1 × (length c.seat.inside.shelves.items ≡ z.0.0.geometry.recv_parts))
+    subst (λ (z : Seat × List Lane). (z.0.0.standing ≡ Seated) × (z.0.0.number ≡ 1) × AreLanes z.0.0 (length z.0.1) z.1 × (length c.seat.inside.shelves.items ≡ z.0.0.geometry.recv_parts) × (c.seat.inside.round ≡ z.0.0.recv.round))
     (λ j. (sym e.step j, sym lanes j))
-    (i.0, i.1, returned_lanes me.0 q (length me.1) c.return_bit_as-found.result ls a (length (take p me.1 ++ drop (p + n) me.1)) h e.word f left, i.3)
+    (i.0, i.1, returned_lanes me.0 q (length me.1) c.return_bit_as-found.result ls a (length (take p me.1 ++ drop (p + n) me.1)) h e.word f left, i.3, i.4)

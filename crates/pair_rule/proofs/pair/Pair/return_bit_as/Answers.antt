@@ -27,8 +27,8 @@ fetch_or-found-requires g c =
       c.pass_to.ensures.seat.0 ∙ (c.requires.pair.0 ∙ ap (λ v. v.table) (sym c.self.view_is)),
       subst (λ (z : ℕ). word.result < z) (ap word_count p.0 ∙ sym p.2) word.ensures.inside,
       may_give_home g.C.Content.may table.key p.1 table.table_id.slots c.pass_to.new.seat.id me.0 c.requires.live q c.pass_to.new.seat.me h.0 (drop (at + n) me.1 ++ take at me.1)
-          g.X.Numbers.one word.result c.mask-mask.result (c.pass_to.ensures.turned ∙ ap (λ (z : List (ℕ × Option Buf)). (me.0, z)) turned) c.requires.allowed h.1 h.3 c.requires.said
-          (word.ensures.value ∙ ap (λ (z : Shape). number z (Return (q / 32))) p.0) c.mask-mask.ensures,
+          g.X.Numbers.one word.result c.one_bit-mask.result (c.pass_to.ensures.turned ∙ ap (λ (z : List (ℕ × Option Buf)). (me.0, z)) turned) c.requires.allowed h.1 h.3 c.requires.said
+          (word.ensures.value ∙ ap (λ (z : Shape). number z (Return (q / 32))) p.0) c.one_bit-mask.ensures,
     )
 
 pub pass_from-requires-clause-here : goal.pass_from-requires-clause-here

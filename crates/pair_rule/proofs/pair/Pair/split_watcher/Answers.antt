@@ -1,4 +1,4 @@
-use Rattle.std.proofs.Common.{rules, ◌≡◌, ◌<◌, ◌+◌, length, sym, subst, arith}
+use Rattle.std.proofs.Common.{rules, ◌≡◌, length, sym, subst}
 use Rattle.std.specs.Prelude.{Option}
 use Rattle.atomic_table.specs.Table.{Me}
 use Rattle.pair_rule.specs.Buf.{Buf}
@@ -19,5 +19,5 @@ pub invariant_of-from : goal.invariant_of-from
 invariant_of-from g c =
     let from = c.from.inside in let i = c.from.invariant in
     subst (λ (me : Me (Option Buf) View). (me.0.standing ≡ Seated) × (me.0.number ≡ 1) × AreLanes me.0 (length me.1) from.lanes.items
-    × (length from.shelves.items ≡ me.0.geometry.recv_parts))
-    (sym c.split_seat.ensures.2) (i.0, i.1, lanes_split from.seat.me.0 (length from.seat.me.1) from.lanes.items i.2, i.3)
+    × (length from.shelves.items ≡ me.0.geometry.recv_parts) × (from.round ≡ me.0.recv.round))
+    (sym c.split_seat.ensures.2) (i.0, i.1, lanes_split from.seat.me.0 (length from.seat.me.1) from.lanes.items i.2, i.3, i.4)

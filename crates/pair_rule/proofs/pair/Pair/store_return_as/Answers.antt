@@ -10,6 +10,6 @@ store-requires g c =
     let p = c.self.invariant in let table = c.self.inside.table.shared in let word = c.return_word-number in (
       c.requires.pair.0 ∙ ap (λ v. v.table) (sym c.self.view_is),
       subst (λ (z : ℕ). word.result < z) (ap word_count p.0 ∙ sym p.2) word.ensures.inside,
-      stores_return g.C.Content.may table.key p.1 table.table_id.slots c.args.seat.now.id c.args.seat.now.me c.requires.live c.args.round c.args.word g.X.Numbers.one g.X.Numbers.two word.result c.pack.result c.requires.allowed c.requires.said.0 c.requires.said.1
-          (word.ensures.value ∙ ap (λ (z : Shape). number z (Return c.args.word)) p.0) c.pack.ensures.value,
+      stores_return g.C.Content.may table.key p.1 table.table_id.slots c.args.seat.now.id c.args.seat.now.me c.requires.live c.args.round c.args.word g.X.Numbers.one g.X.Numbers.two word.result c.empty_word.result c.requires.allowed c.requires.said.0 c.requires.said.1
+          (word.ensures.value ∙ ap (λ (z : Shape). number z (Return c.args.word)) p.0) c.empty_word.ensures,
     )

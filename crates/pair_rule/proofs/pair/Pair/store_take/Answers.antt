@@ -18,5 +18,5 @@ invariant_of-seat g c =
     let size : length ls ≡ c.seat.inside.lanes.len = search rules in
     let set' : c.renew.new.lanes ≡ fresh_lanes c.args.word ls = c.renew.ensures ∙ ap (fresh_lanes c.args.word) before in
     let lanes = written c.seat.inside.lanes.len c.renew.new.lanes ls (ap length set' ∙ untaken_length (32 * c.args.word) 32 ls) size ∙ set' in
-    subst (λ (z : Seat × List Lane). (z.0.0.standing ≡ Seated) × (z.0.0.number ≡ 1) × AreLanes z.0.0 (length z.0.1) z.1 × (length c.seat.inside.shelves.items ≡ z.0.0.geometry.recv_parts))
-    (λ j. (sym e.step j, sym lanes j)) (i.0, i.1, take_lanes me.0 c.args.round c.args.word (length me.1) ls h i.2, i.3)
+    subst (λ (z : Seat × List Lane). (z.0.0.standing ≡ Seated) × (z.0.0.number ≡ 1) × AreLanes z.0.0 (length z.0.1) z.1 × (length c.seat.inside.shelves.items ≡ z.0.0.geometry.recv_parts) × (c.seat.inside.round ≡ z.0.0.recv.round))
+    (λ j. (sym e.step j, sym lanes j)) (i.0, i.1, take_lanes me.0 c.args.round c.args.word (length me.1) ls h i.2, i.3, i.4)

@@ -30,6 +30,6 @@ invariant_of-seat g c =
     let t = e.step in let p : ℕ = place c.deref.result.now q in let k : ℕ = first_slot me.0.geometry (place_of me.0) q in
     let long : length (spliced p k (map Some t.0) me.1) ≡ length me.1 + cells_of me.0.geometry q =
     let s = spliced_length p k (map Some t.0) me.1 in let m = length-map t.0 Some in let n = t.2.size in omega arith in
-    subst (λ (z : Seat × List Lane). (z.0.0.standing ≡ Seated) × (z.0.0.number ≡ 1) × AreLanes z.0.0 (length z.0.1) z.1 × (length c.seat.inside.shelves.items ≡ z.0.0.geometry.recv_parts))
+    subst (λ (z : Seat × List Lane). (z.0.0.standing ≡ Seated) × (z.0.0.number ≡ 1) × AreLanes z.0.0 (length z.0.1) z.1 × (length c.seat.inside.shelves.items ≡ z.0.0.geometry.recv_parts) × (c.seat.inside.round ≡ z.0.0.recv.round))
     (λ j. (sym t.3 j, sym lanes j))
-    (i.0, i.1, subst (λ (z : ℕ). AreLanes (taken q t.1 (bit_or c.take_bit_as-found.result (2 ^ (q % 32))) me.0) z (flagged true true q ls)) (sym long) (taken_lanes me.0 q (length me.1) c.take_bit_as-found.result ls a t.1 h e.word f), i.3)
+    (i.0, i.1, subst (λ (z : ℕ). AreLanes (taken q t.1 (bit_or c.take_bit_as-found.result (2 ^ (q % 32))) me.0) z (flagged true true q ls)) (sym long) (taken_lanes me.0 q (length me.1) c.take_bit_as-found.result ls a t.1 h e.word f), i.3, i.4)

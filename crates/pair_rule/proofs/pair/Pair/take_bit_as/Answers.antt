@@ -29,9 +29,9 @@ fetch_or-found-requires g c =
       c.pass_to.ensures.seat.0 ∙ (c.requires.pair.0 ∙ ap (λ v. v.table) (sym c.self.view_is)),
       subst (λ (z : ℕ). word.result < z) (ap word_count p.0 ∙ sym p.2) word.ensures.inside,
       may_take_out g.C.Content.may table.key p.1 table.table_id.slots c.pass_to.new.seat.id me.0 c.requires.live c.args.q c.pass_to.new.seat.me (rotated (place c.args.lanes.now c.args.q) me.1)
-          g.X.Finds.may g.X.Finds.part word.result c.mask-mask.result c.pass_to.ensures.turned c.requires.allowed
+          g.X.Finds.may g.X.Finds.part word.result c.one_bit-mask.result c.pass_to.ensures.turned c.requires.allowed
           (λ k i b h. c.requires.may k i b (subst (λ z. g.C.Content.may z k i b) (sym tag) h)) c.requires.said
-          (word.ensures.value ∙ ap (λ (z : Shape). number z (Take (c.args.q / 32))) p.0) c.mask-mask.ensures,
+          (word.ensures.value ∙ ap (λ (z : Shape). number z (Take (c.args.q / 32))) p.0) c.one_bit-mask.ensures,
     )
 
 pub turn_times-requires : goal.turn_times-requires

@@ -1,4 +1,4 @@
-use Rattle.std.proofs.Common.{rules, ◌≡◌, length, [], ap, ◌∙◌, sym, subst, arith}
+use Rattle.std.proofs.Common.{ap, ◌∙◌, sym, subst}
 use Rattle.pair_core.specs.Moves.{IsRecvIdle}
 use Rattle.pair_rule.specs.Seats.{RecvHeld}
 use Rattle.pair_rule.proofs.LanesStay.{none_out}

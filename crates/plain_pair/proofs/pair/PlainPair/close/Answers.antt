@@ -6,4 +6,4 @@ pub pieces_out-requires : goal.pieces_out-requires
 pieces_out-requires c = few_missing (kept_of c.self.inside) _ _ c.self.invariant c.deref.ensures.value
 
 pub returns : goal.returns
-returns c = rw (← c.self.view_is) (closed_is (kept_of c.self.inside) _ _ _ c.self.invariant c.deref.ensures.value c.pieces_out.ensures)
+returns c = record { answer = rw (← c.self.view_is) (closed_is (kept_of c.self.inside) _ _ _ c.self.invariant c.deref.ensures.value c.pieces_out.ensures) }

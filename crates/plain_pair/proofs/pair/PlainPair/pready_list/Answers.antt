@@ -19,6 +19,7 @@ loop-p-preserved c =
     record {
       shape = e.shape ∙ inv.shape;
       sides = sides_stay inv.sides e.sides;
+      start = λ none. absurd (omega arith);
       round = e.round ∙ inv.round;
       count = (let n = e.count in let m = inv.count in omega arith);
       counts = e.counts;

@@ -8,6 +8,7 @@ abbrev pub invariant-loop-p : goal.invariant-loop-p
 invariant-loop-p l = record {
   shape : l.self.shape ≡ l.fn.self.shape;
   sides : SameSides l.fn.self l.self;
+  start : l.p-index ≡ 0 → l.self ≡ l.fn.self;
   round : l.marks.round ≡ l.round;
   count : l.marks.count ≡ l.p-index;
   counts : IsCounted l.self l.marks;

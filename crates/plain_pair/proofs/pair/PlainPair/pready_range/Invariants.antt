@@ -9,6 +9,7 @@ abbrev pub invariant-loop-i : goal.invariant-loop-i
 invariant-loop-i l = record {
   shape : l.self.shape ≡ l.fn.self.shape;
   sides : SameSides l.fn.self l.self;
+  start : l.i ≡ 0 → l.self ≡ l.fn.self;
   round : l.marks.round ≡ l.round;
   count : l.marks.count ≡ l.i;
   counts : IsCounted l.self l.marks;

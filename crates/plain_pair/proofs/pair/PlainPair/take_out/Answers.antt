@@ -12,11 +12,11 @@ invariant_of-self c =
 
 pub returns-clause-takes : goal.returns-clause-takes
 returns-clause-takes c =
-    rw (← c.self.view_is, c.add.ensures, c.take_at-buffer.ensures.left, c.new.ensures, c.take_at-buffer.ensures.taken, c.recv_place-index.ensures.place, ← c.self.view_is)
+    rw (← c.self.view_is, c.add.ensures, c.take_at-buffer.ensures.left, c.new.ensures.value, c.take_at-buffer.ensures.taken, c.recv_place-index.ensures.place, ← c.self.view_is)
     (takes (kept_of c.self.inside) _ c.args.q c.self.invariant (subst (λ k. CanTake k c.args.q) (sym c.self.view_is) c.requires.free)
     (subst (λ k. kept_missing k c.args.q ≡ None) (sym c.self.view_is) c.requires.arrived))
 
 pub returns-clause-out : goal.returns-clause-out
 returns-clause-out c =
-    rw (c.add.ensures, c.take_at-buffer.ensures.left, c.new.ensures, c.take_at-buffer.ensures.taken, c.recv_place-index.ensures.place, ← c.self.view_is)
+    rw (c.add.ensures, c.take_at-buffer.ensures.left, c.new.ensures.value, c.take_at-buffer.ensures.taken, c.recv_place-index.ensures.place, ← c.self.view_is)
     (is_out (kept_of c.self.inside) _ c.args.q c.self.invariant (subst (λ k. CanTake k c.args.q) (sym c.self.view_is) c.requires.free))

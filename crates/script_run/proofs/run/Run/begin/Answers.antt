@@ -13,7 +13,7 @@ pub returns : goal.returns
 returns c = λ st stands.
     let m = c.pair-matched.result in
     let n_is : c.len-begun.result ≡ length c.args.self.now.pairs.items = omega arith in
-    rw (joined_some c.args.self.now st m stands (rw n_is at c.pair-matched.ensures))
+    rw (joined_some c.args.self.now st m stands (rw n_is at c.pair-matched.ensures.pair))
     (begun_stands c.args.self.now _ st m c.len-begun.result c.in_ok-pair.pair c.name_at-send.result.now c.name_at-recv.result.now stands n_is refl refl
     (c.match_at-2.ensures ∙ ap (matched_at c.len-begun.result m.recv_slot) c.match_at.ensures) c.in_ok-push.ensures.items c.in_ok-pair.ensures
     (rw c.deref.ensures.value at c.name_at-send.ensures) (rw c.deref-2.ensures.value at c.name_at-recv.ensures))

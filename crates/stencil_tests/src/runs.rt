@@ -1,0 +1,149 @@
+//! Runs over a shelf and sinks in memory, in which each call of the outside fails in turn.
+
+use part_io::{MemShelf, MemSink};
+use std::alloc::{AllocError, Global};
+use std::test::Fail;
+use stencil_top::run_serial;
+
+/// The words of a command line, which stand between spaces.
+fn words(alloc: Global, text: &str) -> Result<Vec<String>, AllocError> {
+    let mut words = Vec::new(alloc);
+    for word in text.split(' ') {
+        words.push(String::from_str(alloc, word)?)?;
+    }
+    Ok(words)
+}
+
+/// A shelf with a grid, weights and a script, whose reads of these numbers fail.
+fn shelf(alloc: Global, failing: &[u32]) -> Result<MemShelf, AllocError> {
+    let mut shelf = MemShelf::new(alloc, Vec::from_slice(alloc, failing)?);
+    shelf.put("g.csv", b"0,0,0\n0,1,0\n0,0,0\n")?;
+    shelf.put("w.csv", b"0,1,0\n1,0,1\n0,1,0\n")?;
+    shelf.put("s.txt", b"world 2 1 1\nsend a 0 1 7 0 3 4\nend\n")?;
+    Ok(shelf)
+}
+
+/// A sink with room for so many bytes, whose writes of these numbers fail.
+fn sink(alloc: Global, room: u32, failing: &[u32]) -> Result<MemSink, AllocError> {
+    MemSink::new(alloc, room, Vec::from_slice(alloc, failing)?)
+}
+
+/// How a run ends: its status, the calls of the shelf and of both sinks, what was written, and what was noted.
+fn ended(
+    alloc: Global,
+    line: &str,
+    reads: &[u32],
+    out: (u32, &[u32]),
+    notes: &[u32],
+) -> Result<String, Fail> {
+    let words = words(alloc, line)?;
+    let mut shelf = shelf(alloc, reads)?;
+    let mut sink_out = sink(alloc, out.0, out.1)?;
+    let mut note = sink(alloc, 100, notes)?;
+    let status = run_serial(alloc, &words, &mut shelf, &mut sink_out, &mut note).code();
+    let calls = (shelf.reads(), sink_out.writes(), note.writes());
+    let written = String::from_utf8_lossy(alloc, sink_out.bytes())?;
+    let noted = String::from_utf8_lossy(alloc, note.bytes())?;
+    Ok(format!(in alloc; "{status} {calls:?} {written}|{noted}")?)
+}
+
+const STENCIL: &str = "stencil --grid g.csv --weights w.csv";
+
+const MADE: &str = "stencil --make 1,2,2 --steps 0";
+
+const MADE_BY: &str = "stencil --make 1,2,2 --steps 0 --weights w.csv";
+
+const SCRIPT: &str = "script s.txt";
+
+#[test]
+fn each_call_of_the_outside_may_fail(rt: HostRuntime) -> Result<(), Fail> {
+    let whole: (u32, &[u32]) = (100, &[]);
+    let runs: [(&str, &[u32], (u32, &[u32]), &[u32], &str); 15] = [
+        (
+            STENCIL,
+            &[],
+            whole,
+            &[],
+            "0 (2, 1, 0) 0,1,0\n1,0,1\n0,1,0\n|",
+        ),
+        (
+            STENCIL,
+            &[0],
+            whole,
+            &[],
+            "4 (1, 0, 1) |partstencil: cannot read weights\n",
+        ),
+        (
+            STENCIL,
+            &[1],
+            whole,
+            &[],
+            "4 (2, 0, 1) |partstencil: cannot read grid\n",
+        ),
+        (
+            STENCIL,
+            &[],
+            (100, &[0]),
+            &[],
+            "5 (2, 1, 1) |partstencil: cannot write\n",
+        ),
+        (
+            STENCIL,
+            &[],
+            (8, &[]),
+            &[],
+            "5 (2, 1, 1) 0,1,0\n1,|partstencil: cannot write\n",
+        ),
+        (STENCIL, &[1], whole, &[0], "4 (2, 0, 1) |"),
+        (
+            MADE,
+            &[0],
+            whole,
+            &[],
+            "0 (0, 1, 0) grid 2 2 steps 0\nsum -10\nmin -8\nmax 7\ncheck -5\n|",
+        ),
+        (MADE, &[], (100, &[0]), &[0], "5 (0, 1, 1) |"),
+        (
+            MADE_BY,
+            &[0],
+            whole,
+            &[],
+            "4 (1, 0, 1) |partstencil: cannot read weights\n",
+        ),
+        (
+            SCRIPT,
+            &[],
+            whole,
+            &[],
+            "0 (1, 1, 0) ok\nok\nunmatched a\n|",
+        ),
+        (
+            SCRIPT,
+            &[0],
+            whole,
+            &[],
+            "4 (1, 0, 1) |partstencil: cannot read script\n",
+        ),
+        (
+            SCRIPT,
+            &[],
+            (100, &[0]),
+            &[],
+            "5 (1, 1, 1) |partstencil: cannot write\n",
+        ),
+        (SCRIPT, &[], (100, &[0]), &[0], "5 (1, 1, 1) |"),
+        (
+            "script t.txt",
+            &[],
+            whole,
+            &[],
+            "4 (1, 0, 1) |partstencil: cannot read script\n",
+        ),
+        ("stencil", &[], whole, &[0], "2 (0, 0, 1) |"),
+    ];
+    for (line, reads, out, notes, wanted) in runs {
+        let got = ended(rt.alloc(), line, reads, out, notes)?;
+        assert_eq!(rt; got.as_str(), wanted);
+    }
+    Ok(())
+}
