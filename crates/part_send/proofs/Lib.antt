@@ -4,3 +4,5 @@ pub mod Starting
 pub mod Masks
 pub mod Tested
 pub mod Winning
+pub mod Slots
+pub mod Filling

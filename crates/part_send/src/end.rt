@@ -1,10 +1,13 @@
 //! The send end.
 
-ghost use Rattle.std.specs.Prelude.{◌≡◌, ◌-◌, ◌<◌, ◌≤◌, ◌^◌, true, false};
+ghost use Rattle.std.specs.Prelude.{◌≡◌, ℕ, ◌-◌, ◌<◌, ◌≤◌, ◌^◌, true, false};
 ghost use Rattle.part_geometry.specs.declared.TheConstants.{LAST_ROUND};
+ghost use Rattle.gate_word.specs.Order.{IsLater};
+ghost use Rattle.pair_core.specs.Names.{Claim};
 ghost use Rattle.pair_core.specs.Moves.{IsSendActive, IsSendIdle};
 ghost use Rattle.pair_rule.specs.First.{with_marker, marker, with_marker_back, note};
 ghost use Rattle.pair_rule.specs.Told.{AreOpen, KnowsMarks};
+ghost use Rattle.pair_rule.specs.Views.{seen, saw, told};
 ghost use Rattle.pair_rule.specs.Seats.{IsOf};
 ghost use Rattle.part_send.specs.Ends.{is_active};
 
@@ -99,18 +102,31 @@ impl<C: Content> SendEnd<C> {
         Marker { seat }
     }
 
-    /// Takes a marker back. The end has then seen what both have seen, and has the marks of both. Where it is active and
-    /// no marker is out any more, each claim word, as it has last seen it, is open in its round, and it has each mark of
-    /// the round that these words show.
+    /// Takes a marker back. The end has then seen what both have seen, and has the marks of both; then it looks at claim
+    /// word 0. Where it is active, each claim word, as it has last seen it, is open in its round; and where no marker is
+    /// out any more, it has each mark of the round that these words show.
     pub fn rejoin(&mut self, pair: &Pair<C>, marker: Marker<C>)
         requires pair { IsOf self.old.table self.old.view pair.now }
         requires same { marker.table ≡ self.old.table }
-        ensures end { self.new ≡ record self.old { view = with_marker_back self.old.view marker.view } }
+        ensures end { (w : ℕ) × IsLater (seen (with_marker_back self.old.view marker.view) (Claim 0)) w
+            × (self.new ≡ record self.old { view = saw (Claim 0) w (with_marker_back self.old.view marker.view) }) }
         ensures opened { is_active self.new.view ≡ true → AreOpen self.new.view }
         ensures known { is_active self.new.view ≡ true → self.new.view.send.markers ≡ 0 → KnowsMarks self.new.view }
     {
-        pair.join_marker(&mut self.seat, marker.into_seat());
+        let _round = self.seat.round();
+        let _found = pair.join_marker(&mut self.seat, marker.into_seat());
         self.out = self.out.saturating_sub(1);
+    }
+
+    /// Learns what a note tells: the end has then seen what both it and the giver of the note had seen. Then it looks at
+    /// claim word 0.
+    pub fn learn(&mut self, pair: &Pair<C>, note: Note<C>)
+        requires pair { IsOf self.old.table self.old.view pair.now }
+        requires same { note.table ≡ self.old.table }
+        ensures { (w : ℕ) × IsLater (seen (told self.old.view note.view) (Claim 0)) w
+            × (self.new ≡ record self.old { view = saw (Claim 0) w (told self.old.view note.view) }) }
+    {
+        let _found = pair.learn_send(&mut self.seat, note);
     }
 
     /// A note of what the end has seen, for another seat of the pair to learn. It may be dropped.

@@ -10,6 +10,20 @@ ghost use Rattle.pair_rule.specs.Marking.{HasOut, spot};
 ghost use Rattle.part_send.specs.Marking.{IsRight, AreLent, AreFilled};
 
 use pair_rule::{Content, MarkSeat, Pair};
+use part_tables::Tables;
+
+/// The bytes of a cell, which are part of those of its send partition.
+fn cell_part<'a>(tables: &Tables, cell: usize, bytes: &'a [u8]) -> &'a [u8]
+    requires cell { cell < cells tables.now }
+    requires long { length bytes.now ≡ tables.now.send_bytes }
+    ensures value { result.now ≡ cut tables.now cell bytes.now }
+    ensures long { length result.now ≡ cell_length tables.now cell }
+{
+    let size = tables.geometry().send_bytes();
+    let here = tables.cell(cell);
+    let start = here.send * size;
+    &bytes[(here.start - start) as usize..(here.end - start) as usize]
+}
 
 /// Lends the buffer of a cell, fills it for a round with its part of the partition's bytes, and puts it back.
 fn fill_cell<C: Content>(seat: &mut MarkSeat<C>, pair: &Pair<C>, round: u32, cell: usize, bytes: &[u8])
@@ -24,9 +38,8 @@ fn fill_cell<C: Content>(seat: &mut MarkSeat<C>, pair: &Pair<C>, round: u32, cel
 {
     let tables = pair.tables();
     let place = tables.place(round) as u32;
-    let here = tables.cell(cell);
-    let start = here.send * tables.geometry().send_bytes();
-    let part = &bytes[(here.start - start) as usize..(here.end - start) as usize];
+    let _cells = tables.cells();
+    let part = cell_part(tables, cell, bytes);
     let mut lent = pair.lend_marked(seat, place, cell as u32);
     lent.fill(round, part);
     pair.put_marked(seat, place, cell as u32, lent);
@@ -46,6 +59,7 @@ pub(crate) fn fill<C: Content>(
     ensures seat { seat.new ≡ record seat.old { out = seat.new.out } }
     ensures filled { AreFilled round partition bytes.now seat.new }
 {
+    let _geometry = pair.geometry();
     let (first, after) = pair.tables().sent(partition as usize);
     for cell in first..after {
         fill_cell(seat, pair, round, cell, bytes);

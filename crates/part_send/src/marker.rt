@@ -1,7 +1,10 @@
 //! The marker.
 
-ghost use Rattle.std.specs.Prelude.{◌≡◌, [], None};
+ghost use Rattle.std.specs.Prelude.{◌≡◌, ℕ, [], None};
+ghost use Rattle.gate_word.specs.Order.{IsLater};
+ghost use Rattle.pair_core.specs.Names.{Claim};
 ghost use Rattle.pair_rule.specs.First.{note};
+ghost use Rattle.pair_rule.specs.Views.{seen, saw, told};
 ghost use Rattle.pair_rule.specs.Seats.{IsOf};
 
 use pair_rule::{Content, MarkSeat, Note, Pair};
@@ -32,6 +35,17 @@ impl<C: Content> Marker<C> {
     {
         let Marker { seat } = self;
         seat
+    }
+
+    /// Learns what a note tells: the marker has then seen what both it and the giver of the note had seen. Then it looks
+    /// at claim word 0.
+    pub fn learn(&mut self, pair: &Pair<C>, note: Note<C>)
+        requires pair { IsOf self.old.table self.old.view pair.now }
+        requires same { note.table ≡ self.old.table }
+        ensures { (w : ℕ) × IsLater (seen (told self.old.view note.view) (Claim 0)) w
+            × (self.new ≡ record self.old { view = saw (Claim 0) w (told self.old.view note.view) }) }
+    {
+        let _found = pair.learn_marker(&mut self.seat, note);
     }
 
     /// A note of what the marker has seen, for another seat of the pair to learn. It may be dropped.
