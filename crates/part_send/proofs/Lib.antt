@@ -6,3 +6,4 @@ pub mod Tested
 pub mod Winning
 pub mod Slots
 pub mod Filling
+pub mod Laid

@@ -51,3 +51,41 @@ module _ {X Y : Type 0} (f : X → Y) where
   set_map [] i b = refl
   set_map (x ∷ xs) zero b = refl
   set_map (x ∷ xs) (suc i) b = ap (λ (z : List Y). f x ∷ z) (set_map xs i b)
+
+-- the first n items and the others
+module _ {X : Type 0} where
+  pub halves : (n : ℕ) (xs : List X) → take n xs ++ drop n xs ≡ xs
+  halves zero xs = refl
+  halves (suc n) [] = refl
+  halves (suc n) (x ∷ xs) = ap (λ (z : List X). x ∷ z) (halves n xs)
+
+  pub every_take : (P : ℕ → X → Type 0) (k n : ℕ) (xs : List X) → Every P k xs → Every P k (take n xs)
+  every_take P k zero xs each = tt
+  every_take P k (suc n) [] each = tt
+  every_take P k (suc n) (x ∷ xs) each = (each.0, every_take P (suc k) n xs each.1)
+
+  pub every_drop : (P : ℕ → X → Type 0) (k n : ℕ) (xs : List X) → Every P k xs → Every P (k + n) (drop n xs)
+  every_drop P k zero xs each = let z : k ≡ k + 0 = omega arith in subst (λ (m : ℕ). Every P m xs) z each
+  every_drop P k (suc n) [] each = tt
+  every_drop P k (suc n) (x ∷ xs) each = let z : suc k + n ≡ k + suc n = omega arith in subst (λ (m : ℕ). Every P m (drop n xs)) z (every_drop P (suc k) n xs each.1)
+
+  pub take_size : (n : ℕ) (xs : List X) → n ≤ length xs → length (take n xs) ≡ n
+  take_size zero xs low = refl
+  take_size (suc n) [] low = absurd (omega arith)
+  take_size (suc n) (x ∷ xs) low = let rest = take_size n xs (omega arith) in omega arith
+
+  pub drop_size : (n : ℕ) (xs : List X) → length (drop n xs) ≡ length xs - n
+  drop_size zero xs = omega arith
+  drop_size (suc n) [] = omega arith
+  drop_size (suc n) (x ∷ xs) = let rest = drop_size n xs in omega arith
+
+module _ {X Y : Type 0} (f : X → Y) where
+  pub map_halves : (n : ℕ) (xs : List X) → map f (take n xs) ++ map f (drop n xs) ≡ map f xs
+  map_halves zero xs = refl
+  map_halves (suc n) [] = refl
+  map_halves (suc n) (x ∷ xs) = ap (λ (z : List Y). f x ∷ z) (map_halves n xs)
+
+  pub drop_map : (n : ℕ) (xs : List X) → drop n (map f xs) ≡ map f (drop n xs)
+  drop_map zero xs = refl
+  drop_map (suc n) [] = refl
+  drop_map (suc n) (x ∷ xs) = drop_map n xs

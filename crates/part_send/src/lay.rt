@@ -27,7 +27,9 @@ pub(crate) fn lay<C: Content>(
     ensures wide { IsWide seat.new.view }
     ensures sent { result ≡ full_over seat.new.view round partition }
 {
+    let _geometry = pair.geometry();
     let tables = pair.tables();
+    let _pieces = tables.pieces();
     let (first, after) = tables.sent(partition as usize);
     let low = tables.cell(first).piece;
     let high = tables.cell(after - 1).piece;
