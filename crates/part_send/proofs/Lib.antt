@@ -7,3 +7,4 @@ pub mod Winning
 pub mod Slots
 pub mod Filling
 pub mod Laid
+pub mod Marked

@@ -115,6 +115,7 @@ impl<C: Content> Marker<C> {
         ensures few { AreFew marks.new }
         ensures goes_on { Goes self.old.view self.new.view marks.old marks.new (p, part_of self.old.view.geometry bytes.now marks.old.count) result }
     {
+        let _pieces = pair.tables().pieces();
         let size = pair.geometry().send_bytes() as usize;
         let start = marks.count as usize * size;
         match self.pready(pair, marks.round, p, &bytes[start..start + size]) {
