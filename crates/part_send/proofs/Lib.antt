@@ -8,3 +8,4 @@ pub mod Slots
 pub mod Filling
 pub mod Laid
 pub mod Marked
+pub mod ManyMarks
