@@ -1,5 +1,5 @@
 -- The buffers of a partition's cells, filled one after another.
-use Rattle.std.proofs.Common.{◌≡◌, ◌≢◌, ℕ, suc, ◌+◌, ◌-◌, ◌*◌, ◌%◌, ◌<◌, ◌≤◌, List, length, map, Option, Some, None, refl, sym, ap, ◌∙◌, subst, arith, inl, inr, length-set}
+use Rattle.std.proofs.Common.{◌≡◌, ℕ, ◌+◌, ◌-◌, ◌%◌, ◌<◌, ◌≤◌, List, length, map, Option, Some, refl, sym, ap, ◌∙◌, subst, arith, inl, inr, length-set}
 use Rattle.std.specs.Prelude.{slice_set}
 use Rattle.std.proofs.lemmas.Bool.{cases_eq}
 use mathlib.Core.Option.{some, some-injective}
@@ -54,7 +54,7 @@ module _ (s : MarkHeld) (k p c : ℕ) (b : List ℕ) (first : s.first ≡ sent_s
 
   pub next_filled : IsShape s.view.geometry → c < cells s.view.geometry → length b ≡ s.view.geometry.send_bytes
       → AreSoFar s.view.geometry k (first_sent s.view.geometry p) (c + 1) (sent_count s.view.geometry p) b
-        (slice_set s.out (spot s (k % s.view.geometry.depth) c) (Some (buf k (cut s.view.geometry c b))))
+      (slice_set s.out (spot s (k % s.view.geometry.depth) c) (Some (buf k (cut s.view.geometry c b))))
   next_filled v inside size =
       let w = spot_is s k p c first low in
       let i : ℕ = c - first_sent s.view.geometry p in
@@ -70,7 +70,7 @@ module _ (s : MarkHeld) (k p c : ℕ) (b : List ℕ) (first : s.first ≡ sent_s
               let same : y ≡ z = some-injective y z (sym (set_here h.bufs i y few) ∙ (ap (get_elem? (slice_set h.bufs i y)) (sym e) ∙ at)) in
               let here : first_sent s.view.geometry p + j ≡ c = omega arith in
               subst (λ (u : Buf). length u.bytes ≡ cell_length s.view.geometry (first_sent s.view.geometry p + j)) same
-                (length-cut s.view.geometry v c b inside size ∙ ap (cell_length s.view.geometry) (sym here))
+              (length-cut s.view.geometry v c b inside size ∙ ap (cell_length s.view.geometry) (sym here))
           | inr other ↦ h.long j z (sym (set_else h.bufs i j y other) ∙ at)
         ];
         cuts = λ j z at less. elim (cases_eq j i) [
@@ -78,7 +78,7 @@ module _ (s : MarkHeld) (k p c : ℕ) (b : List ℕ) (first : s.first ≡ sent_s
               let same : y ≡ z = some-injective y z (sym (set_here h.bufs i y few) ∙ (ap (get_elem? (slice_set h.bufs i y)) (sym e) ∙ at)) in
               let here : first_sent s.view.geometry p + j ≡ c = omega arith in
               subst (λ (u : Buf). (u.round ≡ k) × (u.bytes ≡ cut s.view.geometry (first_sent s.view.geometry p + j) b)) same
-                (refl, ap (λ (n : ℕ). cut s.view.geometry n b) (sym here))
+              (refl, ap (λ (n : ℕ). cut s.view.geometry n b) (sym here))
           | inr other ↦ h.cuts j z (sym (set_else h.bufs i j y other) ∙ at) (omega arith)
         ];
       }

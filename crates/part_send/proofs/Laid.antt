@@ -1,10 +1,9 @@
 -- A claim laid into the pieces over its partition, one after another: which pieces have it, and which of its buffers are still out.
-use Rattle.std.proofs.Common.{◌≡◌, ◌≢◌, ℕ, zero, suc, ◌+◌, ◌-◌, ◌*◌, ◌%◌, ◌<◌, ◌≤◌, Bool, true, false, true≢false, nat_le, nat_lt, ◌&&◌, List, [], ◌∷◌, ◌++◌, length, map, take, drop, Contains, Option, Some, None, refl, sym, ap, ◌∙◌, subst, arith, inl, inr}
+use Rattle.std.proofs.Common.{◌≡◌, ◌≢◌, ℕ, ◌+◌, ◌-◌, ◌%◌, ◌<◌, ◌≤◌, Bool, true, false, true≢false, nat_le, nat_lt, List, [], ◌∷◌, length, map, take, drop, Contains, Option, Some, None, refl, sym, ap, ◌∙◌, subst, arith, inl, inr}
 use Rattle.std.specs.Prelude.{count_by, if◌then◌else◌}
 use Rattle.std.specs.List.{range_with_len}
-use Rattle.std.proofs.lemmas.Bool.{cases_eq, cases_lt, cases_Bool, and_parts, and_from, leb-true, le-leb, ltb-true, lt-ltb}
+use Rattle.std.proofs.lemmas.Bool.{cases_eq, cases_Bool, and_parts, and_from, leb-true, le-leb, ltb-true, lt-ltb}
 use Rattle.part_geometry.specs.Shape.{Shape, IsShape}
-use Rattle.part_geometry.specs.Cells.{cells}
 use Rattle.part_geometry.specs.Pieces.{pieces, piece_of, first_part, need_count, Touches}
 use Rattle.part_tables.specs.Parts.{first_sent, first_shared, after_shared}
 use Rattle.part_tables.specs.Bytes.{cut}
@@ -13,7 +12,6 @@ use Rattle.pair_core.specs.Core.{has}
 use Rattle.pair_core.specs.Reading.{touches, pieces_over, is_full}
 use Rattle.pair_core.specs.Names.{Name, Claim, Piece, Fits, claim_words}
 use Rattle.pair_core.specs.Steps.{mark, left_of}
-use Rattle.pair_core.specs.Moves.{MayLay}
 use Rattle.pair_core.specs.declared.view.Pending.{Pending}
 use Rattle.pair_core.proofs.Cut.{touch_range, range_touch}
 use Rattle.pair_core.proofs.LayLists.{has_here, has_else, goes_on, on_from}
@@ -21,7 +19,7 @@ use Rattle.pair_rule.specs.Buf.{Buf}
 use Rattle.pair_rule.specs.Rule.{slot_number}
 use Rattle.pair_rule.specs.Steps.{AreCuts}
 use Rattle.pair_rule.specs.Seats.{MarkHeld}
-use Rattle.pair_rule.specs.Marking.{IsFilled, sent_count, shared_count, shared_slot, with_part, laid_at}
+use Rattle.pair_rule.specs.Marking.{IsFilled, shared_count, shared_slot, with_part, laid_at}
 use Rattle.pair_rule.specs.Views.{seen, looks, saw}
 use Rattle.pair_rule.specs.declared.view.View.{View}
 use Rattle.part_send.specs.Ends.{IsWide}
@@ -94,11 +92,17 @@ next_pends g k p low high i x o a b round part before behind = record {
   goes = λ more.
       let t : Touches g (i + 1) x.partition = subst (Touches g (i + 1)) (sym part) (touch_in g p low high o (i + 1) (omega arith) more) in
       let missing : has (i ∷ x.laid) (i + 1) ≡ false = has_else i (i + 1) x.laid (omega arith) ∙ behind (i + 1) (omega arith) in
-      let inside : i + 1 < pieces g = (let most = o.inside in omega arith) in
-      (record x { laid = i ∷ x.laid }, goes_on g o.shape i x (i + 1) inside t missing, round, part, (λ j low' less. elim (cases_eq j i) [
-        | inl e ↦ ap (has (i ∷ x.laid)) e ∙ has_here i x.laid
-        | inr other ↦ has_else i j x.laid other ∙ before j low' (omega arith)
-      ]), (λ j past. has_else i j x.laid (omega arith) ∙ behind j (omega arith)));
+      let inside : i + 1 < pieces g = (let most = o.inside in omega arith) in (
+        record x { laid = i ∷ x.laid },
+        goes_on g o.shape i x (i + 1) inside t missing,
+        round,
+        part,
+        (λ j low' less. elim (cases_eq j i) [
+          | inl e ↦ ap (has (i ∷ x.laid)) e ∙ has_here i x.laid
+          | inr other ↦ has_else i j x.laid other ∙ before j low' (omega arith)
+        ]),
+        (λ j past. has_else i j x.laid (omega arith) ∙ behind j (omega arith)),
+      );
   done = λ past. last (left_of g i x) refl past;
 }
   where
@@ -240,11 +244,11 @@ module _ (t s : MarkHeld) (k p low high i sent : ℕ) (o : AreOver t.view.geomet
       let now : ℕ → Bool = λ j. is_full g (seen s'.view (Piece e j)) k j in
       let was : ℕ → Bool = λ j. is_full g (seen s.view (Piece e j)) k j in
       let here : now (low + (i - low)) ≡ full =
-          let back : low + (i - low) ≡ i = omega arith in
-          ap now back ∙ (ap (λ (z : ℕ). is_full g z k i) (sees (Piece e i) ∙ (seen_here s.view inv.wide (Piece e i) fits v ∙ ap (λ (z : Shape). with_part z i p w) same)) ∙ is) in
+      let back : low + (i - low) ≡ i = omega arith in
+      ap now back ∙ (ap (λ (z : ℕ). is_full g z k i) (sees (Piece e i) ∙ (seen_here s.view inv.wide (Piece e i) fits v ∙ ap (λ (z : Shape). with_part z i p w) same)) ∙ is) in
       let before : (j : ℕ) → low ≤ j → j < low + (i - low) → now j ≡ was j = λ j from to.
-          let there : Fits s.view.geometry (Piece e j) = subst (λ (z : Shape). (e < z.depth) × (j < pieces z)) (sym same) (deep, (let z : j < pieces g = omega arith in z)) in
-          ap (λ (z : ℕ). is_full g z k j) (sees (Piece e j) ∙ seen_else s.view (Piece e i) (Piece e j) v fits there (λ f. let u : j ≡ i = cc in absurd (omega arith))) in
+      let there : Fits s.view.geometry (Piece e j) = subst (λ (z : Shape). (e < z.depth) × (j < pieces z)) (sym same) (deep, (let z : j < pieces g = omega arith in z)) in
+      ap (λ (z : ℕ). is_full g z k j) (sees (Piece e j) ∙ seen_else s.view (Piece e i) (Piece e j) v fits there (λ f. let u : j ≡ i = cc in absurd (omega arith))) in
       record {
         table = inv.table;
         view = ap (λ (z : View). record z { seen = s'.view.seen; looks = s'.view.looks; pending = s'.view.pending }) inv.view;
@@ -257,8 +261,12 @@ module _ (t s : MarkHeld) (k p low high i sent : ℕ) (o : AreOver t.view.geomet
             );
         wide = record { words = wide.words; counts = wide.counts };
         pends = subst (λ (z : Shape). Pends k p low high (i + 1) (left_of z i x)) (sym same) (next_pends g k p low high i x o a h q.2 q.3 q.4 q.5);
-        left = (inv.left.0, inv.left.1, subst (λ (z : Shape). AreLeft g k p high (i + 1) inv.left.0 (s.first + shared_count z p i) (drop (shared_count z p i) s.out)) (sym same)
-            (next_left g k p low high i inv.left.0 s.first s.out o a h inv.left.2));
+        left = (
+          inv.left.0,
+          inv.left.1,
+          subst (λ (z : Shape). AreLeft g k p high (i + 1) inv.left.0 (s.first + shared_count z p i) (drop (shared_count z p i) s.out)) (sym same)
+              (next_left g k p low high i inv.left.0 s.first s.out o a h inv.left.2),
+        );
         sent_is =
             let more : i + 1 - low ≡ (i - low) + 1 = omega arith in
             count ∙ (ap (λ (z : ℕ). z + (if full then 1 else 0)) (inv.sent_is ∙ sym (same_count now was low (i - low) before))
@@ -274,12 +282,14 @@ pub all_laid : (t s : MarkHeld) (k p low high i sent : ℕ) → AreOver t.view.g
     → HasLaid t s × (s.out ≡ []) × (sent ≡ full_over s.view k p)
 all_laid t s k p low high i sent o end inv =
     let none : s.view.pending ≡ None = inv.pends.done (omega arith) in
-    let same : s.view.geometry ≡ t.view.geometry = ap (λ (z : View). z.geometry) inv.view in
-    (record {
-      table = inv.table;
-      view = inv.view ∙ ap (λ (z : Option Pending). record t.view { seen = s.view.seen; looks = s.view.looks; pending = z }) none;
-      claims = inv.claims;
-    }, none_left t.view.geometry k p high i inv.left.0 s.first s.out (omega arith) inv.left.2,
-    inv.sent_is ∙ (ap (λ (n : ℕ). count_by (λ j. is_full t.view.geometry (seen s.view (Piece (k % t.view.geometry.depth) j)) k j) (range_with_len low (n - low))) (sym end)
-      ∙ (ap (count_by (λ j. is_full t.view.geometry (seen s.view (Piece (k % t.view.geometry.depth) j)) k j)) (sym (over_is t.view.geometry p low high o))
-      ∙ ap (λ (z : Shape). count_by (λ j. is_full z (seen s.view (Piece (k % z.depth) j)) k j) (pieces_over z p)) (sym same))))
+    let same : s.view.geometry ≡ t.view.geometry = ap (λ (z : View). z.geometry) inv.view in (
+      record {
+        table = inv.table;
+        view = inv.view ∙ ap (λ (z : Option Pending). record t.view { seen = s.view.seen; looks = s.view.looks; pending = z }) none;
+        claims = inv.claims;
+      },
+      none_left t.view.geometry k p high i inv.left.0 s.first s.out (omega arith) inv.left.2,
+      inv.sent_is ∙ (ap (λ (n : ℕ). count_by (λ j. is_full t.view.geometry (seen s.view (Piece (k % t.view.geometry.depth) j)) k j) (range_with_len low (n - low))) (sym end)
+          ∙ (ap (count_by (λ j. is_full t.view.geometry (seen s.view (Piece (k % t.view.geometry.depth) j)) k j)) (sym (over_is t.view.geometry p low high o))
+          ∙ ap (λ (z : Shape). count_by (λ j. is_full z (seen s.view (Piece (k % z.depth) j)) k j) (pieces_over z p)) (sym same))),
+    )

@@ -1,6 +1,5 @@
 -- One mark after another: the entries marked so far, and where a call stops.
-use Rattle.std.proofs.Common.{◌≡◌, ℕ, ◌+◌, ◌-◌, ◌*◌, ◌<◌, ◌≤◌, Bool, true, ◌==◌, List, [], ◌∷◌, ◌++◌, length, get_or, map, take, Ok, Err, Result, refl, sym, ap, ◌∙◌, subst, arith}
-use Rattle.std.specs.List.{range_with_len}
+use Rattle.std.proofs.Common.{◌≡◌, ℕ, ◌+◌, ◌-◌, ◌*◌, ◌<◌, ◌≤◌, Bool, true, ◌==◌, List, [], ◌∷◌, ◌++◌, length, get_or, take, Ok, Err, refl, sym, ap, ◌∙◌, subst, arith}
 use Rattle.std.proofs.lemmas.Bool.{eqb-true}
 use Rattle.std.proofs.lemmas.List.{take_all}
 use Rattle.std.proofs.lemmas.List.FromFn.{take-map-range_with_len, map-range_with_len_more, length-map-range_with_len, get_or-range_with_len, length-range_with_len}
@@ -45,13 +44,14 @@ module _ (old now : View) (k : ℕ) (parts bytes : List ℕ) (i p : ℕ) (marks 
       let n : ℕ = goes.0 in let m : Marked = goes.1 in
       let x : ℕ × List ℕ = (get_or parts i 0, part_of old.geometry bytes i) in
       let marked : HasMarked now new k x.0 x.1 n m =
-          subst (λ (z : ℕ × List ℕ). HasMarked now new k z.0 z.1 n m) entry (subst (λ (z : ℕ). HasMarked now new z p (part_of now.geometry bytes marks.count) n m) round goes.2) in
-      (subst (λ (z : ℕ). AreMarked k old (take (i + 1) (entries old.geometry parts bytes)) z new) (sym (ap (λ (z : Marks). z.sent) goes.3))
-        (subst (λ (z : List (ℕ × List ℕ)). AreMarked k old z (marks.sent + m.sent) new) (sym (entries_next old.geometry parts bytes i inside))
-        (marked_more k old (take i (entries old.geometry parts bytes)) marks.sent now new x n m h marked)),
-      ap (λ (z : Marks). z.round) goes.3 ∙ round,
-      ap (λ (z : Marks). z.count) goes.3 ∙ ap (λ (z : ℕ). z + 1) count,
-      ap (λ (z : View). z.geometry) goes.2.view ∙ same)
+      subst (λ (z : ℕ × List ℕ). HasMarked now new k z.0 z.1 n m) entry (subst (λ (z : ℕ). HasMarked now new z p (part_of now.geometry bytes marks.count) n m) round goes.2) in (
+        subst (λ (z : ℕ). AreMarked k old (take (i + 1) (entries old.geometry parts bytes)) z new) (sym (ap (λ (z : Marks). z.sent) goes.3))
+            (subst (λ (z : List (ℕ × List ℕ)). AreMarked k old z (marks.sent + m.sent) new) (sym (entries_next old.geometry parts bytes i inside))
+            (marked_more k old (take i (entries old.geometry parts bytes)) marks.sent now new x n m h marked)),
+        ap (λ (z : Marks). z.round) goes.3 ∙ round,
+        ap (λ (z : Marks). z.count) goes.3 ∙ ap (λ (z : ℕ). z + 1) count,
+        ap (λ (z : View). z.geometry) goes.2.view ∙ same,
+      )
 
   pub stops : (new : View) (marks' : Marks) (stop : ReadyStop) → Goes now new marks marks' (p, part_of now.geometry bytes marks.count) (Err stop)
       → HasStopped old new k (entries old.geometry parts bytes) stop

@@ -1,5 +1,5 @@
 -- A partition that was claimed, filled and laid is marked.
-use Rattle.std.proofs.Common.{◌≡◌, ◌≢◌, ℕ, ◌+◌, ◌*◌, ◌/◌, ◌%◌, ◌^◌, ◌<◌, ◌≤◌, List, [], ◌∷◌, Option, Some, None, bit_or, refl, sym, ap, ◌∙◌, subst, arith}
+use Rattle.std.proofs.Common.{◌≡◌, ℕ, ◌+◌, ◌/◌, ◌%◌, ◌^◌, ◌<◌, ◌≤◌, List, [], ◌∷◌, Option, Some, None, bit_or, sym, ap, ◌∙◌, subst, arith}
 use Rattle.std.specs.List.{range_with_len}
 use Rattle.std.proofs.lemmas.List.{get_or-set_other}
 use Rattle.std.proofs.lemmas.List.Sums.{count_by-le-length, length-filter}
@@ -16,7 +16,7 @@ use Rattle.pair_core.specs.Steps.{mark}
 use Rattle.pair_core.specs.declared.view.Pending.{Pending}
 use Rattle.pair_core.proofs.Facts.{bit_or_here, bit_or_else, round_or, later_or, later_trans}
 use Rattle.pair_rule.specs.Seats.{MarkHeld}
-use Rattle.pair_rule.specs.Views.{seen, looks, saw, claimed}
+use Rattle.pair_rule.specs.Views.{seen, looks, claimed}
 use Rattle.pair_rule.specs.declared.view.View.{View}
 use Rattle.part_send.specs.Ends.{IsFree}
 use Rattle.part_send.specs.Looking.{saw_often}
@@ -44,9 +44,9 @@ has_marked a b c d k p bs n sent free right h filled laid is =
     let v : c.view ≡ claiming k p bs (saw_often n x w a.view) = ap (λ (z : MarkHeld). z.view) filled ∙ claimed_view a b k p bs n free right h in
     let g : c.view.geometry ≡ a.view.geometry = ap (λ (z : View). z.geometry) v in
     let sees : (j : ℕ) → j < claim_words a.view.geometry → seen d.view (Claim j) ≡ seen (saw_often n x w a.view) (Claim j) = λ j inside.
-        (laid.claims j (subst (λ (z : Shape). j < claim_words z) (sym g) inside)).0 ∙ ap (λ (z : View). seen z (Claim j)) v in
+    (laid.claims j (subst (λ (z : Shape). j < claim_words z) (sym g) inside)).0 ∙ ap (λ (z : View). seen z (Claim j)) v in
     let counts : (j : ℕ) → j < claim_words a.view.geometry → looks d.view (Claim j) ≡ looks (saw_often n x w a.view) (Claim j) = λ j inside.
-        (laid.claims j (subst (λ (z : Shape). j < claim_words z) (sym g) inside)).1 ∙ ap (λ (z : View). looks z (Claim j)) v in
+    (laid.claims j (subst (λ (z : Shape). j < claim_words z) (sym g) inside)).1 ∙ ap (λ (z : View). looks z (Claim j)) v in
     let now : seen d.view x ≡ w = sees (p / 32) there ∙ often_seen a.view free.wide x there n w in
     record {
       right = right;

@@ -1,6 +1,6 @@
 -- Words read by masks.
-use Rattle.std.proofs.Common.{◌≡◌, ◌≢◌, ◌↔◌, ℕ, suc, ◌+◌, ◌-◌, ◌*◌, ◌/◌, ◌%◌, ◌^◌, ◌<◌, ◌≤◌, Bool, true, false, ◌==◌, ◌&&◌, bit_or, refl, sym, ap, ◌∙◌, subst, arith, inl, inr}
-use Rattle.std.specs.Prelude.{bit_and, IsTrue}
+use Rattle.std.proofs.Common.{◌≡◌, ℕ, ◌+◌, ◌*◌, ◌/◌, ◌%◌, ◌^◌, ◌<◌, Bool, true, false, ◌==◌, refl, sym, ap, ◌∙◌, arith, inl, inr}
+use Rattle.std.specs.Prelude.{bit_and}
 use Rattle.std.specs.Int.{bit_at}
 use Rattle.std.proofs.lemmas.Bool.{cases_lt, eq-eqb, eqb-true}
 use Rattle.std.proofs.lemmas.Nat.Bits.{bit_at_ones, bit_at_ones_above, shr_and_one}
@@ -55,16 +55,16 @@ full_masked g v w k i inside round =
     let n : ℕ = need_count g i in let few = need_count-le g v i inside in
     same_test (bit_and (need g i) (bits_in w) == need g i) (is_full g w k i)
     (λ same.
-        let are = and-in (need g i) (bits_in w) (eqb-true (bit_and (need g i) (bits_in w)) (need g i) same) in
-        full_passes g v w k i inside (bits_full g v w k i inside round
-          (λ j low. word_bit w j (omega arith) ∙ set_one (bits_in w) j (are j (one_set (need g i) j (bit_at_ones n j low))))))
+    let are = and-in (need g i) (bits_in w) (eqb-true (bit_and (need g i) (bits_in w)) (need g i) same) in
+    full_passes g v w k i inside (bits_full g v w k i inside round
+    (λ j low. word_bit w j (omega arith) ∙ set_one (bits_in w) j (are j (one_set (need g i) j (bit_at_ones n j low))))))
     (λ full.
-        let is = passes_full g v w k i inside full in
-        eq-eqb (bit_and (need g i) (bits_in w)) (need g i) (in-and (need g i) (bits_in w) (λ j set.
-          elim (cases_lt j n) [
-            | inl low ↦ one_set (bits_in w) j (sym (word_bit w j (omega arith)) ∙ full_bit g v w k i j inside is low)
-            | inr high ↦ absurd (let one = set_one (need g i) j set in let none = bit_at_ones_above n j high in omega arith)
-          ])))
+    let is = passes_full g v w k i inside full in
+    eq-eqb (bit_and (need g i) (bits_in w)) (need g i) (in-and (need g i) (bits_in w) (λ j set.
+    elim (cases_lt j n) [
+      | inl low ↦ one_set (bits_in w) j (sym (word_bit w j (omega arith)) ∙ full_bit g v w k i j inside is low)
+      | inr high ↦ absurd (let one = set_one (need g i) j set in let none = bit_at_ones_above n j high in omega arith)
+    ])))
 
 -- a bit that is shifted into its place
 pub shifted : (k : ℕ) → k < 33 → 1 * 2 ^ k % 18446744073709551616 ≡ 2 ^ k

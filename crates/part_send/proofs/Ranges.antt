@@ -45,8 +45,8 @@ middle_kept f n low m few before here behind =
     let zero' : 0 + low ≡ low = omega arith in
     let rest : ℕ = n - (low + m) in
     let cut : range_with_len 0 n ≡ range_with_len 0 low ++ (range_with_len low m ++ range_with_len (low + m) rest) =
-        ap (range_with_len 0) whole ∙ (range_both 0 low (m + rest)
-        ∙ (ap (λ (b : ℕ). range_with_len 0 low ++ range_with_len b (m + rest)) zero' ∙ ap (λ (l : List ℕ). range_with_len 0 low ++ l) (range_both low m rest))) in
+    ap (range_with_len 0) whole ∙ (range_both 0 low (m + rest)
+    ∙ (ap (λ (b : ℕ). range_with_len 0 low ++ range_with_len b (m + rest)) zero' ∙ ap (λ (l : List ℕ). range_with_len 0 low ++ l) (range_both low m rest))) in
     ap (filter f) cut ∙ (filter-append f (range_with_len 0 low) (range_with_len low m ++ range_with_len (low + m) rest)
     ∙ (ap (λ (l : List ℕ). l ++ filter f (range_with_len low m ++ range_with_len (low + m) rest)) (none_kept f 0 low (λ i a b. before i (omega arith)))
     ∙ (filter-append f (range_with_len low m) (range_with_len (low + m) rest)

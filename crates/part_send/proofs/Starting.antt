@@ -1,6 +1,5 @@
 -- The words of a round that are stored one after another.
-use Rattle.std.proofs.Common.{◌≡◌, ◌≢◌, ◌⊎◌, ℕ, ◌+◌, ◌%◌, ◌<◌, ◌≤◌, ap, ◌∙◌, sym, inl, inr, arith}
-use Rattle.gate_word.specs.Words.{round_in}
+use Rattle.std.proofs.Common.{◌≡◌, ℕ, ◌+◌, ◌%◌, ◌<◌, ap, ◌∙◌, sym, arith}
 use Rattle.part_geometry.specs.Shape.{Shape, IsShape}
 use Rattle.pair_rule.specs.Seats.{Held}
 use Rattle.pair_rule.specs.Views.{stored_piece, stored_claim}

@@ -1,20 +1,18 @@
 -- What the looks of a test tell: at the claim words in order, and at the piece words in order.
-use Rattle.std.proofs.Common.{◌≡◌, ◌≢◌, ◌⊎◌, ℕ, suc, ◌+◌, ◌*◌, ◌/◌, ◌%◌, ◌<◌, ◌≤◌, Bool, true, false, ◌==◌, ◌&&◌, true≢false, List, [], ◌∷◌, Contains, refl, sym, ap, ◌∙◌, subst, arith, inl, inr}
-use Rattle.std.specs.Prelude.{if◌then◌else◌, MatchOption, Option, Some, None}
+use Rattle.std.proofs.Common.{◌≡◌, ℕ, suc, ◌+◌, ◌/◌, ◌%◌, ◌<◌, ◌≤◌, true, false, ◌==◌, true≢false, List, [], ◌∷◌, Contains, refl, sym, ap, ◌∙◌, subst, arith, inl, inr}
+use Rattle.std.specs.Prelude.{MatchOption, Option, Some, None}
 use Rattle.std.proofs.lemmas.Bool.{cases_eq, cases_Bool, eqb-true, and_parts}
 use Rattle.gate_word.specs.Words.{round_in}
-use Rattle.gate_word.specs.Order.{IsLater}
 use Rattle.part_geometry.specs.Shape.{Shape, IsShape}
 use Rattle.part_geometry.specs.Pieces.{pieces}
-use Rattle.pair_core.specs.Words.{bit, next}
+use Rattle.pair_core.specs.Words.{bit}
 use Rattle.pair_core.specs.Names.{Name, Claim, Release, Piece, Fits, claim_words}
 use Rattle.pair_core.specs.Core.{is_mark, times}
 use Rattle.pair_core.specs.Reading.{part_bit, IsFull, is_full}
 use Rattle.pair_core.specs.Moves.{IsSendActive, MayShut}
 use Rattle.pair_core.specs.declared.view.Mark.{Mark}
-use Rattle.pair_core.proofs.Facts.{later_trans}
 use Rattle.pair_core.proofs.Full.{full_passes, passes_full}
-use Rattle.pair_rule.specs.Views.{seen, looks, saw}
+use Rattle.pair_rule.specs.Views.{seen, saw}
 use Rattle.pair_rule.specs.Told.{Learns}
 use Rattle.pair_rule.specs.declared.view.View.{View}
 use Rattle.part_send.specs.Ends.{IsWide}
@@ -113,13 +111,13 @@ module _ (old d : View) (l : Looks old d) (v : IsShape d.geometry) (i : ℕ) (in
   same_claims n few claimed p low =
       let there : p / 32 < claim_words d.geometry = omega arith in
       subst (λ (z : ℕ). (round_in z ≡ d.send.round) × (bit z (p % 32) ≡ 1))
-        (sym (seen_else d (Piece (d.send.round % d.geometry.depth) i) (Claim (p / 32)) w (deep, inside) there (λ e. absurd (cc)))) (claimed p low)
+      (sym (seen_else d (Piece (d.send.round % d.geometry.depth) i) (Claim (p / 32)) w (deep, inside) there (λ e. absurd (cc)))) (claimed p low)
 
   same_pieces : AreFull d i → AreFull (saw (Piece (d.send.round % d.geometry.depth) i) w d) i
   same_pieces full j low =
       subst (λ (z : ℕ). IsFull d.geometry z d.send.round j)
-        (sym (seen_else d (Piece (d.send.round % d.geometry.depth) i) (Piece (d.send.round % d.geometry.depth) j) w (deep, inside) (deep, omega arith)
-        (λ e. let f : j ≡ i = cc in absurd (omega arith)))) (full j low)
+      (sym (seen_else d (Piece (d.send.round % d.geometry.depth) i) (Piece (d.send.round % d.geometry.depth) j) w (deep, inside) (deep, omega arith)
+      (λ e. let f : j ≡ i = cc in absurd (omega arith)))) (full j low)
 
   pub claims_stay : AreClaimed d d.geometry.send_parts → AreClaimed (saw (Piece (d.send.round % d.geometry.depth) i) w d) d.geometry.send_parts
   claims_stay = same_claims d.geometry.send_parts (omega arith)
@@ -129,7 +127,7 @@ module _ (old d : View) (l : Looks old d) (v : IsShape d.geometry) (i : ℕ) (in
     | inl e ↦
         subst (λ (z : ℕ). IsFull d.geometry (seen (saw (Piece (d.send.round % d.geometry.depth) i) w d) (Piece (d.send.round % d.geometry.depth) z)) d.send.round z) (sym e)
         (subst (λ (z : ℕ). IsFull d.geometry z d.send.round i) (sym (seen_here d l.wide (Piece (d.send.round % d.geometry.depth) i) (deep, inside) w))
-          (passes_full d.geometry v w d.send.round i inside passes))
+        (passes_full d.geometry v w d.send.round i inside passes))
     | inr other ↦ same_pieces full j (omega arith)
   ]
 

@@ -1,8 +1,7 @@
 -- A claim that is tried again after each loss: each word found has a bit more beside the partition's, so there are 32 tries at most.
-use Rattle.std.proofs.Common.{◌≡◌, ◌≢◌, ◌⊎◌, ℕ, zero, suc, ◌+◌, ◌-◌, ◌*◌, ◌/◌, ◌%◌, ◌^◌, ◌<◌, ◌≤◌, Bool, true, false, ◌==◌, List, length, get_or, Ok, Err, refl, sym, ap, ◌∙◌, subst, arith, inl, inr, length-set}
+use Rattle.std.proofs.Common.{◌≡◌, ◌≢◌, ◌⊎◌, ℕ, zero, suc, ◌+◌, ◌%◌, ◌<◌, ◌≤◌, ◌==◌, length, refl, sym, ap, ◌∙◌, subst, arith, inl, inr, length-set}
 use native.Mathlib.Decide.{ℕ_discrete}
 use Rattle.std.specs.Prelude.{slice_set}
-use Rattle.std.specs.Int.{bit_at}
 use Rattle.std.proofs.lemmas.Bool.{cases_eq, cases_lt}
 use Rattle.std.proofs.lemmas.List.{get_or-set_same, set-set}
 use Rattle.std.proofs.lemmas.Nat.Bits.{same_from_bits_below}
@@ -13,12 +12,10 @@ use Rattle.pair_core.specs.Words.{bit}
 use Rattle.pair_core.specs.Names.{Name, Fits, number, pick}
 use Rattle.pair_core.proofs.Facts.{bit_lt, later_bit, number_lt}
 use Rattle.pair_rule.specs.Views.{seen, looks, saw}
-use Rattle.pair_rule.specs.Seats.{MarkHeld}
 use Rattle.pair_rule.specs.declared.view.View.{View}
 use Rattle.part_send.specs.Ends.{IsWide}
 use Rattle.part_send.specs.Looking.{saw_often, HasSeen}
-use Rattle.part_send.specs.Marking.{IsRight, Lets, Refuses, IsRefused}
-use Rattle.part_send.specs.declared.answers.ReadyRefusal.{ReadyRefusal}
+use Rattle.part_send.specs.Marking.{Lets}
 use Rattle.part_send.proofs.Masks.{word_bit}
 
 -- bit n of a word, but 0 where n is q
@@ -95,7 +92,7 @@ shut_bit w = refl
 same_word : (a b : ℕ) → round_in a ≡ round_in b → ((j : ℕ) → j < 33 → bit a j ≡ bit b j) → a ≡ b
 same_word a b round bits =
     let low : bits_in a ≡ bits_in b = same_from_bits_below 32 (bits_in a) (bits_in b) (bits-small a) (bits-small b)
-        (λ j under. sym (word_bit a j under) ∙ (bits j (omega arith) ∙ word_bit b j under)) in
+    (λ j under. sym (word_bit a j under) ∙ (bits j (omega arith) ∙ word_bit b j under)) in
     let shut : shut_in a ≡ shut_in b = shut_bit a ∙ (ap (λ (z : ℕ). z == 1) (bits 32 (omega arith)) ∙ sym (shut_bit b)) in
     sym (read a) ∙ ((λ i. word_of (round i) (shut i) (low i)) ∙ read b)
 

@@ -1,5 +1,5 @@
 -- The send end and its markers, each by the view of its seat, as they are between two calls.
-use Rattle.std.specs.Prelude.{◌≡◌, ℕ, ◌+◌, Bool, true, false, ◌==◌, ◌&&◌, if◌then◌else◌, [], length, fold, Result, Ok, Err, None}
+use Rattle.std.specs.Prelude.{◌≡◌, ℕ, ◌+◌, Bool, false, ◌==◌, ◌&&◌, if◌then◌else◌, [], length, fold, Result, Ok, Err, None}
 use Rattle.std.specs.List.{range_with_len}
 use Rattle.part_geometry.specs.Shape.{IsShape}
 use Rattle.part_geometry.specs.Pieces.{pieces}

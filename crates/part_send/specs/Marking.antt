@@ -1,5 +1,5 @@
 -- The mark of one partition: what it answers, by the marker's view before and after.
-use Rattle.std.specs.Prelude.{◌≡◌, ◌≢◌, ◌⊎◌, ℕ, ◌+◌, ◌-◌, ◌*◌, ◌/◌, ◌%◌, ◌<◌, ◌≤◌, List, ◌∷◌, length, map, count_by, Contains, Result, Ok, Err, Option, Some, None}
+use Rattle.std.specs.Prelude.{◌≡◌, ◌≢◌, ◌⊎◌, ℕ, ◌+◌, ◌/◌, ◌%◌, ◌<◌, ◌≤◌, List, ◌∷◌, length, map, count_by, Result, Ok, Err, Some, None}
 use Rattle.gate_word.specs.Words.{round_in}
 use Rattle.gate_word.specs.Order.{IsLater}
 use Rattle.part_geometry.specs.Shape.{Shape}

@@ -1,5 +1,5 @@
 -- What a test of the send answers, by the end's view before and after.
-use Rattle.std.specs.Prelude.{◌≡◌, ◌≢◌, ℕ, ◌+◌, ◌*◌, ◌/◌, ◌%◌, ◌<◌, ◌≤◌, true, false, Option, Some, None}
+use Rattle.std.specs.Prelude.{◌≡◌, ℕ, ◌+◌, ◌/◌, ◌%◌, ◌<◌, ◌≤◌, true, false}
 use Rattle.gate_word.specs.Words.{round_in}
 use Rattle.part_geometry.specs.Pieces.{pieces}
 use Rattle.pair_core.specs.Words.{bit}

@@ -26,14 +26,20 @@ fn cell_part<'a>(tables: &Tables, cell: usize, bytes: &'a [u8]) -> &'a [u8]
 }
 
 /// Lends the buffer of a cell, fills it for a round with its part of the partition's bytes, and puts it back.
-fn fill_cell<C: Content>(seat: &mut MarkSeat<C>, pair: &Pair<C>, round: u32, cell: usize, bytes: &[u8])
+fn fill_cell<C: Content>(
+    seat: &mut MarkSeat<C>,
+    pair: &Pair<C>,
+    round: u32,
+    cell: usize,
+    bytes: &[u8],
+)
     requires pair { IsOf seat.old.table seat.old.view pair.now }
     requires cell { cell < cells seat.old.view.geometry }
     requires long { length bytes.now ≡ seat.old.view.geometry.send_bytes }
     requires held { (y : Buf) × HasOut seat.old (round % seat.old.view.geometry.depth) cell (Some y)
         × (length y.bytes ≡ cell_length seat.old.view.geometry cell) }
     ensures { seat.new ≡ record seat.old {
-        out = slice_set seat.old.out (spot seat.old (round % seat.old.view.geometry.depth) cell) (Some (buf round (cut seat.old.view.geometry cell bytes.now)));
+      out = slice_set seat.old.out (spot seat.old (round % seat.old.view.geometry.depth) cell) (Some (buf round (cut seat.old.view.geometry cell bytes.now)));
     } }
 {
     let tables = pair.tables();

@@ -36,7 +36,7 @@ pub(crate) fn least_lacking(word: u64, c: u32, parts: u32) -> Option<u32>
     ensures { MatchOption result
         ((p : ℕ) → p < parts → p / 32 ≡ c → bit word (p % 32) ≡ 1)
         (λ p. (p < parts) × (p / 32 ≡ c) × (bit word (p % 32) ≡ 0)
-            × ((j : ℕ) → j < p → j / 32 ≡ c → bit word (j % 32) ≡ 1)) }
+        × ((j : ℕ) → j < p → j / 32 ≡ c → bit word (j % 32) ≡ 1)) }
 {
     let bits = bits_of(word);
     if bits == u32::MAX {

@@ -107,9 +107,9 @@ fn shut_claims<C: Content>(seat: &mut SendSeat<C>, pair: &Pair<C>)
     requires may { MayShut seat.old.view.geometry (seen seat.old.view) seat.old.view.send.round }
     ensures table { seat.new.table ≡ seat.old.table }
     ensures view { seat.new.view ≡ record seat.old.view {
-        seen = seat.new.view.seen;
-        looks = seat.new.view.looks;
-        send = record seat.old.view.send { shut = claim_words seat.old.view.geometry };
+      seen = seat.new.view.seen;
+      looks = seat.new.view.looks;
+      send = record seat.old.view.send { shut = claim_words seat.old.view.geometry };
     } }
 {
     let _round = seat.round();

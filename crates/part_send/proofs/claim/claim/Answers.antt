@@ -1,10 +1,10 @@
-use Rattle.std.proofs.Common.{◌≡◌, ℕ, ◌+◌, ◌/◌, ◌%◌, ◌<◌, ◌≤◌, ap, ◌∙◌, arith}
+use Rattle.std.proofs.Common.{ℕ, ◌+◌, ◌/◌, ◌%◌, ◌<◌, ap, ◌∙◌, arith}
 use Rattle.pair_core.specs.Names.{Claim, claim_words}
 use Rattle.pair_core.proofs.Facts.{later_trans}
 use Rattle.pair_rule.specs.Seats.{MarkHeld}
 use Rattle.pair_rule.specs.Views.{seen, saw}
 use Rattle.pair_rule.specs.declared.view.View.{View}
-use Rattle.part_send.proofs.Winning.{others, others_few, one_more, saw_next}
+use Rattle.part_send.proofs.Winning.{others_few, one_more, saw_next}
 use Rattle.part_send.proofs.claim.claim.Goals as goal
 
 pub loop-preserved : goal.loop-preserved

@@ -1,4 +1,4 @@
-use Rattle.std.proofs.Common.{◌≡◌, ◌≢◌, ℕ, ◌+◌, ◌%◌, ◌^◌, ◌/◌, ap, ◌∙◌, sym, refl, inl, inr, arith}
+use Rattle.std.proofs.Common.{◌≡◌, ◌≢◌, ℕ, ◌%◌, ◌^◌, ◌/◌, ap, ◌∙◌, sym, refl, inl, inr, arith}
 use Rattle.std.specs.Prelude.{bit_and}
 use Rattle.pair_core.specs.Words.{bit}
 use Rattle.pair_core.proofs.Facts.{bit_lt}

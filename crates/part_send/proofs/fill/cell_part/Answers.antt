@@ -1,11 +1,9 @@
-use Rattle.std.proofs.Common.{◌≡◌, ℕ, ◌+◌, ◌-◌, ◌*◌, ◌<◌, ◌≤◌, ap, ◌∙◌, sym, subst, mul-le-mul_right, arith}
+use Rattle.std.proofs.Common.{◌≡◌, ℕ, ◌+◌, ◌*◌, ◌<◌, ◌≤◌, ap, ◌∙◌, sym, subst, mul-le-mul_right, arith}
 use Rattle.part_geometry.specs.declared.walk.Cell.{Cell}
 use Rattle.part_geometry.specs.Shape.{Shape, IsShape}
-use Rattle.part_geometry.specs.Cells.{cells, start, end, send_of}
+use Rattle.part_geometry.specs.Cells.{cells, send_of}
 use Rattle.part_geometry.specs.Walk.{cell_at}
-use Rattle.part_geometry.specs.declared.TheConstants.{MAX_TOTAL}
 use Rattle.part_geometry.proofs.Parts.{send-below}
-use Rattle.part_tables.specs.Bytes.{cut}
 use Rattle.part_tables.proofs.Facts.{cell-inside, length-cut}
 use Rattle.part_send.proofs.fill.cell_part.Goals as goal
 

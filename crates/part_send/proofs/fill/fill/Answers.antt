@@ -1,4 +1,4 @@
-use Rattle.std.proofs.Common.{◌≡◌, ℕ, ◌+◌, ◌-◌, ◌%◌, ◌<◌, ◌≤◌, List, Option, Some, length, refl, ap, ◌∙◌, sym, subst, arith}
+use Rattle.std.proofs.Common.{◌≡◌, ℕ, ◌+◌, ◌%◌, ◌≤◌, List, Option, Some, length, refl, ap, ◌∙◌, sym, subst, arith}
 use Rattle.std.specs.Prelude.{slice_set}
 use Rattle.part_geometry.specs.Shape.{Shape, IsShape}
 use Rattle.part_geometry.specs.Cells.{cells}
@@ -8,7 +8,7 @@ use Rattle.part_tables.proofs.Facts.{first_sent-le, first_sent-mono}
 use Rattle.pair_rule.specs.Buf.{Buf, buf}
 use Rattle.pair_rule.specs.Seats.{MarkHeld}
 use Rattle.pair_rule.specs.Marking.{sent_slot, sent_count, spot}
-use Rattle.part_send.specs.Marking.{AreLent, AreFilled}
+use Rattle.part_send.specs.Marking.{AreLent}
 use Rattle.part_send.proofs.Filling.{AreSoFar, none_filled, next_held, next_filled, all_filled}
 use Rattle.part_send.proofs.fill.fill.Goals as goal
 
@@ -46,7 +46,7 @@ pub loop-cell-init : goal.loop-cell-init
 loop-cell-init g c =
     let s = c.args.seat.now in let k : ℕ = c.args.round in let p : ℕ = c.args.partition in
     let first : first_sent s.view.geometry p ≡ c.sent-first.result.0 =
-        ap (λ (z : Shape). first_sent z p) (c.requires.pair.1 ∙ sym c.tables.ensures) ∙ sym (ap (λ (z : ℕ × ℕ). z.0) c.sent-first.ensures.value) in
+    ap (λ (z : Shape). first_sent z p) (c.requires.pair.1 ∙ sym c.tables.ensures) ∙ sym (ap (λ (z : ℕ × ℕ). z.0) c.sent-first.ensures.value) in
     record {
       seat = refl;
       filled = subst (λ (z : ℕ). AreSoFar s.view.geometry k (first_sent s.view.geometry p) z (sent_count s.view.geometry p) c.args.bytes.now s.out) first
@@ -58,10 +58,10 @@ fill_cell-requires-clause-held g c =
     let i = c.loop-cell.invariant in let p : ℕ = c.args.partition in
     let t = c.tables.ensures in
     let z = here c.args.seat.now c.loop-cell.seat c.args.pair.now.key.geometry c.args.round p c.loop-cell.cell c.sent-first.result.0 c.sent-first.result.1 c.args.bytes.now
-        c.geometry-geometry.ensures.limits c.requires.pair.1 c.requires.lent c.requires.right.1
-        (ap (λ (y : ℕ × ℕ). y.0) c.sent-first.ensures.value ∙ ap (λ (y : Shape). first_sent y p) t)
-        (ap (λ (y : ℕ × ℕ). y.1) c.sent-first.ensures.value ∙ ap (λ (y : Shape). first_sent y (p + 1)) t)
-        c.loop-cell.auto.cell i.seat i.filled in
+    c.geometry-geometry.ensures.limits c.requires.pair.1 c.requires.lent c.requires.right.1
+    (ap (λ (y : ℕ × ℕ). y.0) c.sent-first.ensures.value ∙ ap (λ (y : Shape). first_sent y p) t)
+    (ap (λ (y : ℕ × ℕ). y.1) c.sent-first.ensures.value ∙ ap (λ (y : Shape). first_sent y (p + 1)) t)
+    c.loop-cell.auto.cell i.seat i.filled in
     next_held c.loop-cell.seat c.args.round p c.loop-cell.cell c.args.bytes.now z.begins z.low
     (let e = z.end in let low = c.loop-cell-test.true in omega arith) z.filled
 
@@ -71,12 +71,12 @@ loop-cell-preserved g c =
     let j : ℕ = c.loop-cell.cell in let b = c.args.bytes.now in
     let t = c.tables.ensures in
     let z = here old s c.args.pair.now.key.geometry k p j c.sent-first.result.0 c.sent-first.result.1 b
-        c.geometry-geometry.ensures.limits c.requires.pair.1 c.requires.lent c.requires.right.1
-        (ap (λ (y : ℕ × ℕ). y.0) c.sent-first.ensures.value ∙ ap (λ (y : Shape). first_sent y p) t)
-        (ap (λ (y : ℕ × ℕ). y.1) c.sent-first.ensures.value ∙ ap (λ (y : Shape). first_sent y (p + 1)) t)
-        c.loop-cell.auto.cell i.seat i.filled in
+    c.geometry-geometry.ensures.limits c.requires.pair.1 c.requires.lent c.requires.right.1
+    (ap (λ (y : ℕ × ℕ). y.0) c.sent-first.ensures.value ∙ ap (λ (y : Shape). first_sent y p) t)
+    (ap (λ (y : ℕ × ℕ). y.1) c.sent-first.ensures.value ∙ ap (λ (y : Shape). first_sent y (p + 1)) t)
+    c.loop-cell.auto.cell i.seat i.filled in
     let next = next_filled s k p j b z.begins z.low (let e = z.end in let low = c.loop-cell-test.true in omega arith) z.filled z.shape
-        (let few = z.few in let low = c.loop-cell-test.true in omega arith) z.long in
+    (let few = z.few in let low = c.loop-cell-test.true in omega arith) z.long in
     let step = c.fill_cell.ensures in
     let out : List (Option Buf) = slice_set s.out (spot s (k % s.view.geometry.depth) j) (Some (buf k (cut s.view.geometry j b))) in
     let same : c.fill_cell.new.seat.out ≡ out = ap (λ (y : MarkHeld). y.out) step in
@@ -91,9 +91,9 @@ returns-clause-filled g c =
     let i = c.loop-cell.invariant in let p : ℕ = c.args.partition in
     let t = c.tables.ensures in
     let z = here c.args.seat.now c.loop-cell.seat c.args.pair.now.key.geometry c.args.round p c.loop-cell.cell c.sent-first.result.0 c.sent-first.result.1 c.args.bytes.now
-        c.geometry-geometry.ensures.limits c.requires.pair.1 c.requires.lent c.requires.right.1
-        (ap (λ (y : ℕ × ℕ). y.0) c.sent-first.ensures.value ∙ ap (λ (y : Shape). first_sent y p) t)
-        (ap (λ (y : ℕ × ℕ). y.1) c.sent-first.ensures.value ∙ ap (λ (y : Shape). first_sent y (p + 1)) t)
-        c.loop-cell.auto.cell i.seat i.filled in
+    c.geometry-geometry.ensures.limits c.requires.pair.1 c.requires.lent c.requires.right.1
+    (ap (λ (y : ℕ × ℕ). y.0) c.sent-first.ensures.value ∙ ap (λ (y : Shape). first_sent y p) t)
+    (ap (λ (y : ℕ × ℕ). y.1) c.sent-first.ensures.value ∙ ap (λ (y : Shape). first_sent y (p + 1)) t)
+    c.loop-cell.auto.cell i.seat i.filled in
     all_filled c.loop-cell.seat c.args.round p c.loop-cell.cell c.args.bytes.now z.begins
     (let e = z.end in let past = c.loop-cell-test.false in omega arith) z.filled

@@ -1,4 +1,4 @@
-use Rattle.std.proofs.Common.{◌≡◌, ℕ, ◌+◌, ◌-◌, ◌%◌, ◌<◌, List, Option, Some, None, length, ap, ◌∙◌, sym, subst}
+use Rattle.std.proofs.Common.{◌≡◌, ℕ, ◌%◌, List, Option, Some, None, ap, ◌∙◌, sym, subst}
 use Rattle.std.specs.Prelude.{slice_set}
 use Rattle.std.proofs.lemmas.List.{set-set}
 use Rattle.part_geometry.specs.Shape.{Shape}
@@ -25,7 +25,7 @@ returns g c =
     let t = c.tables-tables.ensures ∙ sym c.requires.pair.1 in
     let place : e ≡ c.args.round % s.view.geometry.depth = c.place-place.ensures.value ∙ ap (λ (z : Shape). c.args.round % z.depth) t in
     let filled : y ≡ buf c.args.round (cut s.view.geometry k c.args.bytes.now) =
-        c.fill.ensures ∙ ap (buf c.args.round) (c.cell_part-part.ensures.value ∙ ap (λ (z : Shape). cut z k c.args.bytes.now) t) in
+    c.fill.ensures ∙ ap (buf c.args.round) (c.cell_part-part.ensures.value ∙ ap (λ (z : Shape). cut z k c.args.bytes.now) t) in
     c.put_marked.ensures.step ∙ (ap (λ (z : MarkHeld). with_slot z e k (Some y)) c.lend_marked-lent.ensures.step
     ∙ (ap (λ (z : List (Option Buf)). record s { out = z }) (set-set s.out (spot s e k) None (Some y))
     ∙ (λ i. with_slot s (place i) k (Some (filled i)))))

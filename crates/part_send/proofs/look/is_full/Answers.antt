@@ -1,4 +1,4 @@
-use Rattle.std.proofs.Common.{◌≡◌, ◌∙◌, sym}
+use Rattle.std.proofs.Common.{◌∙◌, sym}
 use Rattle.part_send.proofs.Masks.{full_masked}
 use Rattle.part_send.proofs.look.is_full.Goals as goal
 

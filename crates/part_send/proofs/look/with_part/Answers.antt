@@ -1,4 +1,4 @@
-use Rattle.std.proofs.Common.{◌≡◌, ℕ, ◌+◌, ◌-◌, ◌*◌, ◌%◌, ◌^◌, ◌<◌, ◌≤◌, bit_or, ap, ◌∙◌, sym, subst, arith}
+use Rattle.std.proofs.Common.{ℕ, ◌-◌, ◌*◌, ◌%◌, ◌^◌, bit_or, ap, ◌∙◌, arith}
 use Rattle.part_geometry.specs.Pieces.{first_part}
 use Rattle.pair_core.proofs.Cut.{touch_range}
 use Rattle.part_send.proofs.Masks.{shifted}

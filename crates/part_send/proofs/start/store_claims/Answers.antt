@@ -1,4 +1,4 @@
-use Rattle.std.proofs.Common.{◌≡◌, ◌+◌, ap, ◌∙◌}
+use Rattle.std.proofs.Common.{◌+◌, ap, ◌∙◌}
 use Rattle.pair_core.specs.declared.view.SendSide.{SendSide}
 use Rattle.pair_rule.specs.Seats.{Held}
 use Rattle.part_send.proofs.Starting.{one_more_claim}

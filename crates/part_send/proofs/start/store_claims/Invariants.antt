@@ -1,5 +1,4 @@
 use Rattle.std.proofs.Common.{◌≡◌}
-use Rattle.part_geometry.specs.Pieces.{pieces}
 use Rattle.part_send.specs.Ends.{claims_stored}
 use Rattle.part_send.proofs.start.store_claims.Given as goal
 

@@ -1,6 +1,6 @@
 use Rattle.std.proofs.Common.{◌≡◌, ℕ, ◌+◌, ◌%◌, ◌<◌, ◌≤◌, ap, ◌∙◌, sym, subst, arith}
 use Rattle.gate_word.specs.Words.{round_in}
-use Rattle.part_geometry.specs.Shape.{Shape, IsShape}
+use Rattle.part_geometry.specs.Shape.{IsShape}
 use Rattle.part_geometry.specs.Pieces.{pieces}
 use Rattle.pair_core.specs.Words.{empty}
 use Rattle.pair_core.specs.Names.{Release, Piece}
@@ -18,7 +18,7 @@ loop-i-preserved g c =
     let count : c.pieces-pieces.result ≡ pieces d.geometry = c.pieces-pieces.ensures.value ∙ ap pieces (c.tables.ensures ∙ sym e) in
     let there : j < pieces d.geometry = (let low = c.loop-i-test.true in omega arith) in
     let same : seen c.store_piece.new.seat.view Release ≡ seen d Release =
-        ap (λ (s : Held). seen s.view Release) step ∙ seen_else d (Piece (k % d.geometry.depth) j) Release (empty k) (deep, there) tt (λ no. absurd (cc)) in
+    ap (λ (s : Held). seen s.view Release) step ∙ seen_else d (Piece (k % d.geometry.depth) j) Release (empty k) (deep, there) tt (λ no. absurd (cc)) in
     record {
       seat = one_more_piece k j c.loop-i.seat c.args.seat.now c.store_piece.new.seat i.seat step;
       number = ap (λ (s : Held). s.view.number) step ∙ i.number;

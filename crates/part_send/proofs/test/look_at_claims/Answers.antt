@@ -1,9 +1,8 @@
-use Rattle.std.proofs.Common.{◌≡◌, ℕ, ◌+◌, ◌/◌, ◌<◌, ap, ◌∙◌, sym, subst, arith}
+use Rattle.std.proofs.Common.{◌≡◌, ℕ, ◌<◌, ap, ◌∙◌, sym, subst, arith}
 use Rattle.part_geometry.specs.Shape.{Shape}
-use Rattle.pair_core.specs.Names.{Claim, claim_words}
+use Rattle.pair_core.specs.Names.{claim_words}
 use Rattle.pair_core.specs.Moves.{IsSendActive}
 use Rattle.pair_rule.specs.Seats.{Held}
-use Rattle.pair_rule.specs.Views.{saw}
 use Rattle.pair_rule.specs.declared.view.View.{View}
 use Rattle.part_send.specs.Testing.{IsUnmarked}
 use Rattle.part_send.proofs.Tested.{Looks, unmarked}
@@ -25,4 +24,4 @@ returns-in-Some-clause-answer g c =
     let found = c.in-Some.ensures in
     subst (λ (z : View). IsUnmarked old z c.in-Some.partition c.load_claim-shown.result) (sym step)
     (unmarked old d l c.loop-c.c inside c.load_claim-shown.result c.load_claim-shown.ensures.told c.in-Some.partition
-      (subst (λ (z : ℕ). c.in-Some.partition < z) parts found.0) found.1 found.2 i.claimed found.3)
+    (subst (λ (z : ℕ). c.in-Some.partition < z) parts found.0) found.1 found.2 i.claimed found.3)

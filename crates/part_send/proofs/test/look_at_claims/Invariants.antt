@@ -1,4 +1,4 @@
-use Rattle.std.proofs.Common.{◌≡◌, ℕ, ◌/◌, ◌<◌, ◌≤◌}
+use Rattle.std.proofs.Common.{◌≡◌, ℕ, ◌/◌, ◌<◌}
 use Rattle.gate_word.specs.Words.{round_in}
 use Rattle.pair_core.specs.Names.{Claim}
 use Rattle.pair_core.specs.Reading.{part_bit}

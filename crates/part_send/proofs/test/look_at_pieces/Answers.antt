@@ -1,4 +1,4 @@
-use Rattle.std.proofs.Common.{◌≡◌, ℕ, Bool, true, false, ◌+◌, ◌%◌, ◌<◌, ◌≤◌, ap, ◌∙◌, sym, subst, arith}
+use Rattle.std.proofs.Common.{◌≡◌, ℕ, Bool, true, false, ◌+◌, ◌%◌, ◌<◌, ap, ◌∙◌, sym, subst}
 use Rattle.part_geometry.specs.Shape.{Shape, IsShape}
 use Rattle.part_geometry.specs.Pieces.{pieces}
 use Rattle.pair_core.specs.Names.{Piece, Fits}
@@ -57,11 +57,11 @@ returns-then-not-is_full-clause-answer g c =
     let i = c.loop-piece.invariant in let d = c.loop-piece.seat.view in let old = c.args.seat.now.view in let h : Shape = c.args.pair.now.key.geometry in
     let j : ℕ = c.loop-piece.piece in let w : ℕ = c.load_piece-shown.result in let t = c.tables-tables.ensures in
     let z = here old d c.load_piece-shown.new.seat.view c.round-round.result c.place-place.result j c.pieces-pieces.result w h i.looked i.wide c.round-round.ensures.view.number
-        c.requires.active c.geometry-geometry.ensures.limits c.requires.pair.1 (c.pieces-pieces.ensures.value ∙ ap pieces t) c.loop-piece-test.true
-        (c.place-place.ensures.value ∙ ap (λ (y : Shape). c.round-round.result % y.depth) t) (subst (λ (y : Shape). c.place-place.result < y.depth) t c.place-place.ensures.limits)
-        c.round-round.ensures.value c.load_piece-shown.ensures.told (ap (λ (y : Held). y.view) c.load_piece-shown.ensures.step) in
+    c.requires.active c.geometry-geometry.ensures.limits c.requires.pair.1 (c.pieces-pieces.ensures.value ∙ ap pieces t) c.loop-piece-test.true
+    (c.place-place.ensures.value ∙ ap (λ (y : Shape). c.round-round.result % y.depth) t) (subst (λ (y : Shape). c.place-place.result < y.depth) t c.place-place.ensures.limits)
+    c.round-round.ensures.value c.load_piece-shown.ensures.told (ap (λ (y : Held). y.view) c.load_piece-shown.ensures.step) in
     let fails = tested old d c.round-round.result w j h c.is_full.result false i.looked c.requires.pair.1 c.round-round.ensures.value
-        (c.is_full.ensures ∙ ap (λ (y : Shape). is_full y w c.round-round.result j) t) c.if-not-is_full.true in
+    (c.is_full.ensures ∙ ap (λ (y : Shape). is_full y w c.round-round.result j) t) c.if-not-is_full.true in
     let all : AreClaimed d d.geometry.send_parts = subst (λ (y : Shape). AreClaimed d y.send_parts) (sym (ap (λ (y : View). y.geometry) i.looked.same)) i.claimed in
     subst (λ (y : View). IsUnsent old y j w) (sym z.step) (unsent old d z.looks z.shape j z.inside w z.deep z.learns all i.full fails)
 
@@ -70,11 +70,11 @@ loop-piece-preserved g c =
     let i = c.loop-piece.invariant in let d = c.loop-piece.seat.view in let old = c.args.seat.now.view in let h : Shape = c.args.pair.now.key.geometry in
     let j : ℕ = c.loop-piece.piece in let w : ℕ = c.load_piece-shown.result in let t = c.tables-tables.ensures in
     let z = here old d c.load_piece-shown.new.seat.view c.round-round.result c.place-place.result j c.pieces-pieces.result w h i.looked i.wide c.round-round.ensures.view.number
-        c.requires.active c.geometry-geometry.ensures.limits c.requires.pair.1 (c.pieces-pieces.ensures.value ∙ ap pieces t) c.loop-piece-test.true
-        (c.place-place.ensures.value ∙ ap (λ (y : Shape). c.round-round.result % y.depth) t) (subst (λ (y : Shape). c.place-place.result < y.depth) t c.place-place.ensures.limits)
-        c.round-round.ensures.value c.load_piece-shown.ensures.told (ap (λ (y : Held). y.view) c.load_piece-shown.ensures.step) in
+    c.requires.active c.geometry-geometry.ensures.limits c.requires.pair.1 (c.pieces-pieces.ensures.value ∙ ap pieces t) c.loop-piece-test.true
+    (c.place-place.ensures.value ∙ ap (λ (y : Shape). c.round-round.result % y.depth) t) (subst (λ (y : Shape). c.place-place.result < y.depth) t c.place-place.ensures.limits)
+    c.round-round.ensures.value c.load_piece-shown.ensures.told (ap (λ (y : Held). y.view) c.load_piece-shown.ensures.step) in
     let passes = tested old d c.round-round.result w j h c.is_full.result true i.looked c.requires.pair.1 c.round-round.ensures.value
-        (c.is_full.ensures ∙ ap (λ (y : Shape). is_full y w c.round-round.result j) t) c.if-not-is_full.false in
+    (c.is_full.ensures ∙ ap (λ (y : Shape). is_full y w c.round-round.result j) t) c.if-not-is_full.false in
     let same = ap (λ (y : View). y.geometry) i.looked.same in
     let all : AreClaimed d d.geometry.send_parts = subst (λ (y : Shape). AreClaimed d y.send_parts) (sym same) i.claimed in
     let fits : Fits d.geometry (Piece (d.send.round % d.geometry.depth) j) = (z.deep, z.inside) in

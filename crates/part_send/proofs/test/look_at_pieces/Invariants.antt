@@ -1,4 +1,4 @@
-use Rattle.std.proofs.Common.{◌≡◌, ℕ, ◌<◌, ◌≤◌}
+use Rattle.std.proofs.Common.{◌≡◌}
 use Rattle.part_send.specs.Ends.{IsWide}
 use Rattle.part_send.specs.Looking.{OnlyLooked}
 use Rattle.part_send.specs.Testing.{AreClaimed, AreFull}

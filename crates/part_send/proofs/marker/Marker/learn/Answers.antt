@@ -1,8 +1,8 @@
-use Rattle.std.proofs.Common.{◌≡◌, ap, ◌∙◌, sym, subst}
+use Rattle.std.proofs.Common.{sym, subst}
 use Rattle.std.proofs.lemmas.List.FromFn.{length-map-range_with_len}
 use Rattle.pair_core.specs.Names.{Claim}
 use Rattle.pair_core.specs.State.{word_count}
-use Rattle.pair_rule.specs.Views.{saw, told, told_word}
+use Rattle.pair_rule.specs.Views.{told, told_word}
 use Rattle.part_send.specs.Ends.{IsFree}
 use Rattle.part_send.proofs.Views.{wide_saw}
 use Rattle.part_send.proofs.marker.Marker.learn.Goals as goal

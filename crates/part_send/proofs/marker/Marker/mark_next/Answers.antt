@@ -1,4 +1,4 @@
-use Rattle.std.proofs.Common.{◌≡◌, ℕ, ◌+◌, ◌*◌, ◌<◌, ◌≤◌, ap, ◌∙◌, sym, arith}
+use Rattle.std.proofs.Common.{ap, ◌∙◌, arith}
 use Rattle.part_geometry.specs.Pieces.{pieces}
 use Rattle.part_send.proofs.Marked.{sent_few}
 use Rattle.part_send.proofs.marker.Marker.mark_next.Goals as goal
