@@ -1,0 +1,17 @@
+use Rattle.std.proofs.Common.{◌≡◌, ℕ, ◌-◌, ap, ◌∙◌, sym, subst}
+use Rattle.part_geometry.specs.Shape.{Shape}
+use Rattle.pair_rule.specs.Seats.{Held}
+use Rattle.part_send.specs.Marking.{IsRight, HasMarked}
+use Rattle.part_send.proofs.Marked.{has_marked}
+use Rattle.part_send.proofs.marker.Marker.pready_counted.Goals as goal
+
+pub returns-clause-answer : goal.returns-clause-answer
+returns-clause-answer g c =
+    let s = c.self.inside.seat in let n : ℕ = c.claim.new.steps - c.args.steps.now in
+    let same : c.geometry.result ≡ s.view.geometry =
+    c.geometry.ensures.value ∙ (sym c.requires.pair.1 ∙ sym (ap (λ (z : Held). z.view.geometry) c.self.view_is)) in
+    let right : IsRight s.view.geometry c.args.partition c.args.bytes.now = subst (λ (z : Shape). IsRight z c.args.partition c.args.bytes.now) same c.in_ok-refuse.ensures in
+    subst (λ (z : Held). HasMarked z.view c.lay-sent.new.seat.view c.args.round c.args.partition c.args.bytes.now n
+    record { round = c.args.round; partition = c.args.partition; sent = c.lay-sent.result }) c.self.view_is
+    (has_marked s c.claim.new.seat c.fill.new.seat c.lay-sent.new.seat c.args.round c.args.partition c.args.bytes.now n c.lay-sent.result c.self.invariant right
+    c.in_ok-claim.ensures.answer c.fill.ensures.seat c.lay-sent.ensures.laid c.lay-sent.ensures.sent)
