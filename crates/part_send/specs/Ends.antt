@@ -1,5 +1,6 @@
 -- The send end and its markers, each by the view of its seat, as they are between two calls.
-use Rattle.std.specs.Prelude.{◌≡◌, ℕ, ◌+◌, Bool, false, ◌==◌, ◌&&◌, if◌then◌else◌, [], length, fold, Result, Ok, Err, None}
+use Rattle.std.specs.Prelude.{◌≡◌, ℕ, ◌+◌, Bool, false, ◌==◌, ◌&&◌, if◌then◌else◌, [], length, fold, Result, Ok, Err}
+use Rattle.std.specs.Prelude.{None}
 use Rattle.std.specs.List.{range_with_len}
 use Rattle.part_geometry.specs.Shape.{IsShape}
 use Rattle.part_geometry.specs.Pieces.{pieces}
@@ -44,7 +45,8 @@ start_answer d =
     if is_active d then Err (AlreadyActive d.send.round) else (
     if d.send.round == LAST_ROUND then Err RoundsSpent else Ok (d.send.round + 1))
 
--- the first n piece words are stored for round k, in order; then the first n claim words are stored for the side's round
+-- the first n piece words are stored for round k, in order; then the first n claim words are stored for the side's
+-- round
 abbrev pub pieces_stored : ℕ → ℕ → View → View
 pieces_stored k n d = fold (λ e i. stored_piece k i e) d (range_with_len 0 n)
 

@@ -7,7 +7,10 @@ use Rattle.pair_rule.specs.declared.view.View.{View}
 
 -- the seat stepped n times on the word x, and saw w as the last step left it
 abbrev pub saw_often : ℕ → Name → ℕ → View → View
-saw_often n x w d = record d { seen = slice_set d.seen (number d.geometry x) w; looks = slice_set d.looks (number d.geometry x) (looks d x + n) }
+saw_often n x w d = record d {
+  seen = slice_set d.seen (number d.geometry x) w;
+  looks = slice_set d.looks (number d.geometry x) (looks d x + n);
+}
 
 -- the word x was looked at, and w was found last: it is the word seen before, or a later one
 pub record HasSeen (old new : View) (x : Name) (w : ℕ) : Type 0 where

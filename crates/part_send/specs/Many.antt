@@ -1,5 +1,6 @@
 -- The marks of a range and of a list: one mark after another, until one is refused (MPI 4.0, 4.2.2).
-use Rattle.std.specs.Prelude.{◌≡◌, ℕ, ◌+◌, ◌-◌, ◌*◌, ◌<◌, ◌≤◌, List, [], ◌∷◌, ◌++◌, length, map, take, Result, Ok, Err, slice_index, slice_range}
+use Rattle.std.specs.Prelude.{◌≡◌, ℕ, ◌+◌, ◌-◌, ◌*◌, ◌<◌, ◌≤◌, List, [], ◌∷◌, ◌++◌, length, map, take, Result, Ok}
+use Rattle.std.specs.Prelude.{Err, slice_index, slice_range}
 use Rattle.std.specs.List.{range_with_len}
 use Rattle.part_geometry.specs.declared.TheConstants.{MAX_PARTS}
 use Rattle.part_geometry.specs.Shape.{Shape}
@@ -37,7 +38,8 @@ AreMarked k d (x ∷ xs) sent f = (e : View) × (n : ℕ) × (m : Marked) × Has
 abbrev pub Goes : View → View → Marks → Marks → ℕ × List ℕ → Result (Unit {0}) ReadyStop → Type 0
 Goes old new marks marks' x (Ok _) = (n : ℕ) × (m : Marked) × HasMarked old new marks.round x.0 x.1 n m
     × (marks' ≡ record { round = marks.round; count = marks.count + 1; sent = marks.sent + m.sent })
-Goes old new marks marks' x (Err stop) = (stop.at ≡ marks.count) × ((n : ℕ) × Tells old new marks.round x.0 x.1 n (Err stop.cause))
+Goes old new marks marks' x (Err stop) = (stop.at ≡ marks.count)
+    × ((n : ℕ) × Tells old new marks.round x.0 x.1 n (Err stop.cause))
 
 -- so few marks were made that what they count fits
 abbrev pub AreFew : Marks → Type 0

@@ -1,5 +1,6 @@
 -- The mark of one partition: what it answers, by the marker's view before and after.
-use Rattle.std.specs.Prelude.{◌≡◌, ◌≢◌, ◌⊎◌, ℕ, ◌+◌, ◌/◌, ◌%◌, ◌<◌, ◌≤◌, List, ◌∷◌, length, map, count_by, Result, Ok, Err, Some, None}
+use Rattle.std.specs.Prelude.{◌≡◌, ◌≢◌, ◌⊎◌, ℕ, ◌+◌, ◌/◌, ◌%◌, ◌<◌, ◌≤◌, List, ◌∷◌, length, map, count_by, Result, Ok}
+use Rattle.std.specs.Prelude.{Err, Some, None}
 use Rattle.gate_word.specs.Words.{round_in}
 use Rattle.gate_word.specs.Order.{IsLater}
 use Rattle.part_geometry.specs.Shape.{Shape}
@@ -41,14 +42,16 @@ Refuses w k p _ = ⊥
 
 -- how many of the pieces over partition p are full in round k, as the view has last seen their words
 abbrev pub full_over : View → ℕ → ℕ → ℕ
-full_over d k p = count_by (λ i. is_full d.geometry (seen d (Piece (k % d.geometry.depth) i)) k i) (pieces_over d.geometry p)
+full_over d k p =
+    count_by (λ i. is_full d.geometry (seen d (Piece (k % d.geometry.depth) i)) k i) (pieces_over d.geometry p)
 
 -- Partition p is marked in round k with the bytes b, by n steps on its claim word: the view has grown by this one mark,
 -- and has looked at no other claim word. The pieces sent are those over p that it has seen full.
 pub record HasMarked (old new : View) (k p : ℕ) (b : List ℕ) (n : ℕ) (m : Marked) : Type 0 where
   pub right : IsRight old.geometry p b
   pub view : new ≡ record old { seen = new.seen; looks = new.looks; marks = mark k p b ∷ old.marks }
-  pub claimed : (round_in (seen new (Claim (p / 32))) ≡ k) × (bit (seen new (Claim (p / 32))) 32 ≡ 0) × (part_bit (λ c. seen new (Claim c)) p ≡ 1)
+  pub claimed : (round_in (seen new (Claim (p / 32))) ≡ k) × (bit (seen new (Claim (p / 32))) 32 ≡ 0)
+      × (part_bit (λ c. seen new (Claim c)) p ≡ 1)
   pub later : IsLater (seen old (Claim (p / 32))) (seen new (Claim (p / 32)))
   pub steps : looks new (Claim (p / 32)) ≡ looks old (Claim (p / 32)) + n
   pub others : (c : ℕ) → c < claim_words old.geometry → c ≢ p / 32

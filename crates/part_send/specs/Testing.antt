@@ -16,7 +16,8 @@ use Rattle.part_send.specs.declared.answers.SendTest.TheVariants.{Idle, Unmarked
 
 -- the partitions below n are all marked in the side's round, by the claim words that the view has seen
 abbrev pub AreClaimed : View → ℕ → Type 0
-AreClaimed d n = (p : ℕ) → p < n → (round_in (seen d (Claim (p / 32))) ≡ d.send.round) × (part_bit (λ c. seen d (Claim c)) p ≡ 1)
+AreClaimed d n = (p : ℕ) → p < n → (round_in (seen d (Claim (p / 32))) ≡ d.send.round)
+    × (part_bit (λ c. seen d (Claim c)) p ≡ 1)
 
 -- the pieces below n are all full in the side's round, by the words that the view has seen
 abbrev pub AreFull : View → ℕ → Type 0
@@ -63,7 +64,11 @@ pub record IsShut (old new : View) : Type 0 where
   pub before : View
   pub looked : OnlyLooked old before
   pub may : MayShut old.geometry (seen before) old.send.round
-  pub view : new ≡ record old { seen = new.seen; looks = new.looks; send = record old.send { shut = claim_words old.geometry } }
+  pub view : new ≡ record old {
+    seen = new.seen;
+    looks = new.looks;
+    send = record old.send { shut = claim_words old.geometry };
+  }
 
 -- the answers
 abbrev pub TestTells : View → View → SendTest → Type 0

@@ -25,9 +25,9 @@ pub(crate) fn refuse_word(shown: u64, round: u32, partition: u32) -> Result<(), 
     Ok(())
 }
 
-/// Claims a partition in a round: looks at its claim word, and exchanges it until the claim is won, or the word says that
-/// it can't be. Each exchange that is lost shows a partition more of the word's other 31, so there are 32 at most. Each
-/// step on the word is counted.
+/// Claims a partition in a round: looks at its claim word, and exchanges it until the claim is won, or the word says
+/// that it can't be. Each exchange that is lost shows a partition more of the word's other 31, so there are 32 at
+/// most. Each step on the word is counted.
 pub(crate) fn claim<C: Content, L: Ledger>(
     seat: &mut MarkSeat<C>,
     pair: &Pair<C>,
@@ -43,6 +43,7 @@ pub(crate) fn claim<C: Content, L: Ledger>(
     ensures answer { Claims seat.old seat.new round partition bytes.now (steps.new - steps.old) result }
     ensures steps { (steps.old + 1 ≤ steps.new) × (steps.new ≤ steps.old + 33) }
 {
+    // What the seat or the tables say of themselves, for the proof.
     let _geometry = pair.geometry();
     let mut shown = pair.load_claim(seat, partition / 32);
     steps.tick();

@@ -42,6 +42,7 @@ impl<C: Content> SendEnd<C> {
         requires none { seat.view.send.markers ≡ 0 }
         ensures { result ≡ seat }
     {
+        // What the seat or the tables say of themselves, for the proof.
         let _geometry = pair.geometry();
         SendEnd {
             seat,
@@ -96,15 +97,16 @@ impl<C: Content> SendEnd<C> {
         ensures end { self.new ≡ record self.old { view = with_marker self.old.view } }
         ensures marker { result ≡ record { table = self.old.table; view = marker self.old.view } }
     {
+        // What the seat or the tables say of themselves, for the proof.
         let _round = self.seat.round();
         let seat = pair.split_marker(&mut self.seat);
         self.out += 1;
         Marker { seat }
     }
 
-    /// Takes a marker back. The end has then seen what both have seen, and has the marks of both; then it looks at claim
-    /// word 0. Where it is active, each claim word, as it has last seen it, is open in its round; and where no marker is
-    /// out any more, it has each mark of the round that these words show.
+    /// Takes a marker back. The end has then seen what both have seen, and has the marks of both; then it looks at
+    /// claim word 0. Where it is active, each claim word, as it has last seen it, is open in its round; and where no
+    /// marker is out any more, it has each mark of the round that these words show.
     pub fn rejoin(&mut self, pair: &Pair<C>, marker: Marker<C>)
         requires pair { IsOf self.old.table self.old.view pair.now }
         requires same { marker.table ≡ self.old.table }
@@ -113,19 +115,22 @@ impl<C: Content> SendEnd<C> {
         ensures opened { is_active self.new.view ≡ true → AreOpen self.new.view }
         ensures known { is_active self.new.view ≡ true → self.new.view.send.markers ≡ 0 → KnowsMarks self.new.view }
     {
+        // What the seat or the tables say of themselves, for the proof.
         let _round = self.seat.round();
+        // What the seat or the tables say of themselves, for the proof.
         let _found = pair.join_marker(&mut self.seat, marker.into_seat());
         self.out = self.out.saturating_sub(1);
     }
 
-    /// Learns what a note tells: the end has then seen what both it and the giver of the note had seen. Then it looks at
-    /// claim word 0.
+    /// Learns what a note tells: the end has then seen what both it and the giver of the note had seen. Then it looks
+    /// at claim word 0.
     pub fn learn(&mut self, pair: &Pair<C>, note: Note<C>)
         requires pair { IsOf self.old.table self.old.view pair.now }
         requires same { note.table ≡ self.old.table }
         ensures { (w : ℕ) × IsLater (seen (told self.old.view note.view) (Claim 0)) w
             × (self.new ≡ record self.old { view = saw (Claim 0) w (told self.old.view note.view) }) }
     {
+        // What the seat or the tables say of themselves, for the proof.
         let _found = pair.learn_send(&mut self.seat, note);
     }
 

@@ -39,11 +39,13 @@ fn fill_cell<C: Content>(
     requires held { (y : Buf) × HasOut seat.old (round % seat.old.view.geometry.depth) cell (Some y)
         × (length y.bytes ≡ cell_length seat.old.view.geometry cell) }
     ensures { seat.new ≡ record seat.old {
-      out = slice_set seat.old.out (spot seat.old (round % seat.old.view.geometry.depth) cell) (Some (buf round (cut seat.old.view.geometry cell bytes.now)));
+      out = slice_set seat.old.out (spot seat.old (round % seat.old.view.geometry.depth) cell)
+          (Some (buf round (cut seat.old.view.geometry cell bytes.now)));
     } }
 {
     let tables = pair.tables();
     let place = tables.place(round) as u32;
+    // What the seat or the tables say of themselves, for the proof.
     let _cells = tables.cells();
     let part = cell_part(tables, cell, bytes);
     let mut lent = pair.lend_marked(seat, place, cell as u32);
@@ -65,6 +67,7 @@ pub(crate) fn fill<C: Content>(
     ensures seat { seat.new ≡ record seat.old { out = seat.new.out } }
     ensures filled { AreFilled round partition bytes.now seat.new }
 {
+    // What the seat or the tables say of themselves, for the proof.
     let _geometry = pair.geometry();
     let (first, after) = pair.tables().sent(partition as usize);
     for cell in first..after {

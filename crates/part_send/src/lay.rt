@@ -9,8 +9,8 @@ ghost use Rattle.part_send.specs.Marking.{AreFilled, HasLaid, full_over};
 use crate::look::{is_full, with_part};
 use pair_rule::{Content, MarkSeat, Pair};
 
-/// Lays the pending claim of a partition into each piece over it, in order, with its filled buffers. Answers how many of
-/// these pieces the claim filled.
+/// Lays the pending claim of a partition into each piece over it, in order, with its filled buffers. Answers how many
+/// of these pieces the claim filled.
 pub(crate) fn lay<C: Content>(
     seat: &mut MarkSeat<C>,
     pair: &Pair<C>,
@@ -21,14 +21,17 @@ pub(crate) fn lay<C: Content>(
     requires part { partition < seat.old.view.geometry.send_parts }
     requires wide { IsWide seat.old.view }
     requires pends { seat.old.view.pending ≡ Some record { round = round; partition = partition; laid = [] } }
-    requires filled { (b : List ℕ) × Contains seat.old.view.marks (mark round partition b) × AreFilled round partition b seat.old }
+    requires filled { (b : List ℕ) × Contains seat.old.view.marks (mark round partition b)
+        × AreFilled round partition b seat.old }
     ensures laid { HasLaid seat.old seat.new }
     ensures out { seat.new.out ≡ [] }
     ensures wide { IsWide seat.new.view }
     ensures sent { result ≡ full_over seat.new.view round partition }
 {
+    // What the seat or the tables say of themselves, for the proof.
     let _geometry = pair.geometry();
     let tables = pair.tables();
+    // What the seat or the tables say of themselves, for the proof.
     let _pieces = tables.pieces();
     let (first, after) = tables.sent(partition as usize);
     let low = tables.cell(first).piece;

@@ -15,6 +15,7 @@ pub(crate) fn is_full(tables: &Tables, word: u64, round: u32, i: usize) -> bool
     requires { i < pieces tables.now }
     ensures { result ≡ is_full tables.now word round i }
 {
+    // What the seat or the tables say of themselves, for the proof.
     let _geometry = tables.geometry();
     let need = tables.need(i);
     round_of(word) == round && need & bits_of(word) == need
@@ -26,6 +27,7 @@ pub(crate) fn with_part(tables: &Tables, word: u64, i: usize, partition: u32) ->
     requires touches { Touches tables.now i partition }
     ensures { result ≡ with_part tables.now i partition word }
 {
+    // What the seat or the tables say of themselves, for the proof.
     let _geometry = tables.geometry();
     word | (1 << (partition - tables.first_part(i)))
 }

@@ -50,7 +50,8 @@ impl<C: Content> Marker<C> {
             → (result ≡ Err record { at = 0; cause = ReadyRefusal.BadLength }) × (self.new ≡ self.old) }
         ensures marks { low ≤ high → high < self.old.view.geometry.send_parts
             → length bytes.now ≡ (high + 1 - low) * self.old.view.geometry.send_bytes
-            → TellsMany self.old.view self.new.view round (entries self.old.view.geometry (range_parts low high) bytes.now) result }
+            → TellsMany self.old.view self.new.view round
+            (entries self.old.view.geometry (range_parts low high) bytes.now) result }
     {
         if low > high || high >= pair.geometry().send_parts() {
             return Err(refused_whole(ReadyRefusal::BadRange));
@@ -110,11 +111,14 @@ impl<C: Content> Marker<C> {
         requires few { AreFew marks.old }
         requires long { (marks.old.count + 1) * self.old.view.geometry.send_bytes ≤ length bytes.now }
         requires bytes { p < self.old.view.geometry.send_parts
-            → MayStand C.may pair.now.key.tag marks.old.round (p * self.old.view.geometry.send_bytes) (part_of self.old.view.geometry bytes.now marks.old.count) }
+            → MayStand C.may pair.now.key.tag marks.old.round (p * self.old.view.geometry.send_bytes)
+            (part_of self.old.view.geometry bytes.now marks.old.count) }
         ensures table { self.new.table ≡ self.old.table }
         ensures few { AreFew marks.new }
-        ensures goes_on { Goes self.old.view self.new.view marks.old marks.new (p, part_of self.old.view.geometry bytes.now marks.old.count) result }
+        ensures goes_on { Goes self.old.view self.new.view marks.old marks.new
+            (p, part_of self.old.view.geometry bytes.now marks.old.count) result }
     {
+        // What the seat or the tables say of themselves, for the proof.
         let _pieces = pair.tables().pieces();
         let size = pair.geometry().send_bytes() as usize;
         let start = marks.count as usize * size;

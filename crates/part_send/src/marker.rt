@@ -10,8 +10,8 @@ ghost use Rattle.pair_rule.specs.Seats.{IsOf};
 use pair_rule::{Content, MarkSeat, Note, Pair};
 use std::marker::Model;
 
-/// What a thread marks partitions with (`MPI_Pready`, MPI 4.0, 4.2.2). Contracts see its table and its view. A marker that
-/// is dropped is never taken back, and its pair can't be closed.
+/// What a thread marks partitions with (`MPI_Pready`, MPI 4.0, 4.2.2). Contracts see its table and its view. A marker
+/// that is dropped is never taken back, and its pair can't be closed.
 pub struct Marker<C: Content> {
     pub(crate) seat: MarkSeat<C>,
 }
@@ -37,14 +37,15 @@ impl<C: Content> Marker<C> {
         seat
     }
 
-    /// Learns what a note tells: the marker has then seen what both it and the giver of the note had seen. Then it looks
-    /// at claim word 0.
+    /// Learns what a note tells: the marker has then seen what both it and the giver of the note had seen. Then it
+    /// looks at claim word 0.
     pub fn learn(&mut self, pair: &Pair<C>, note: Note<C>)
         requires pair { IsOf self.old.table self.old.view pair.now }
         requires same { note.table ≡ self.old.table }
         ensures { (w : ℕ) × IsLater (seen (told self.old.view note.view) (Claim 0)) w
             × (self.new ≡ record self.old { view = saw (Claim 0) w (told self.old.view note.view) }) }
     {
+        // What the seat or the tables say of themselves, for the proof.
         let _found = pair.learn_marker(&mut self.seat, note);
     }
 

@@ -18,7 +18,8 @@ use std::sync::ledger::{Blank, Ledger};
 
 /// The refusal of a mark by its arguments.
 fn refuse(geometry: Geometry, partition: u32, bytes: &[u8]) -> Result<(), ReadyRefusal>
-    ensures { MatchResult result (λ _. IsRight geometry partition bytes.now) (λ cause. IsWrong geometry partition bytes.now cause) }
+    ensures { MatchResult result (λ _. IsRight geometry partition bytes.now)
+        (λ cause. IsWrong geometry partition bytes.now cause) }
 {
     if partition >= geometry.send_parts() {
         return Err(ReadyRefusal::BadPartition);
@@ -30,10 +31,10 @@ fn refuse(geometry: Geometry, partition: u32, bytes: &[u8]) -> Result<(), ReadyR
 }
 
 impl<C: Content> Marker<C> {
-    /// Marks partition `partition` in a round with its bytes (`MPI_Pready`, MPI 4.0, 4.2.2). Refused where the sender has
-    /// no such partition or the bytes aren't as many as a partition has, without a look; and where the partition's claim
-    /// word, as this call last saw it, is shut or of another round, or has the partition already. Nothing but what the
-    /// marker has seen changes then.
+    /// Marks partition `partition` in a round with its bytes (`MPI_Pready`, MPI 4.0, 4.2.2). Refused where the sender
+    /// has no such partition or the bytes aren't as many as a partition has, without a look; and where the
+    /// partition's claim word, as this call last saw it, is shut or of another round, or has the partition already.
+    /// Nothing but what the marker has seen changes then.
     pub fn pready(
         &mut self,
         pair: &Pair<C>,
@@ -69,8 +70,8 @@ impl<C: Content> Marker<C> {
         self.pready_counted(pair, round, partition, bytes, &mut steps)
     }
 
-    /// The same, with a count of the steps on the partition's claim word: one load and at most 32 exchanges. It makes no
-    /// step on another claim word.
+    /// The same, with a count of the steps on the partition's claim word: one load and at most 32 exchanges. It makes
+    /// no step on another claim word.
     pub fn pready_counted<L: Ledger>(
         &mut self,
         pair: &Pair<C>,

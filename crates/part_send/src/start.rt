@@ -28,11 +28,21 @@ fn store_pieces<C: Content>(seat: &mut SendSeat<C>, pair: &Pair<C>, round: u32)
     requires idle { IsSendIdle seat.old.view.geometry seat.old.view.send }
     requires next { round ≡ seat.old.view.send.round + 1 }
     requires limit { round ≤ LAST_ROUND }
-    ensures seat { seat.new ≡ record seat.old { view = pieces_stored round (pieces seat.old.view.geometry) seat.old.view } }
+    ensures seat { seat.new ≡ record seat.old {
+      view = pieces_stored round (pieces seat.old.view.geometry) seat.old.view;
+    } }
     ensures geometry { seat.new.view.geometry ≡ seat.old.view.geometry }
-    ensures side { seat.new.view.send ≡ record { round = round; pieces = pieces seat.old.view.geometry; opened = 0; shut = 0; markers = seat.old.view.send.markers } }
+    ensures side { seat.new.view.send ≡ record {
+      round = round;
+      pieces = pieces seat.old.view.geometry;
+      opened = 0;
+      shut = 0;
+      markers = seat.old.view.send.markers;
+    } }
 {
+    // What the seat or the tables say of themselves, for the proof.
     let _geometry = pair.geometry();
+    // What the seat or the tables say of themselves, for the proof.
     let _round = seat.round();
     let pieces = pair.tables().pieces() as u32;
     for i in 0..pieces {
@@ -47,10 +57,13 @@ fn store_claims<C: Content>(seat: &mut SendSeat<C>, pair: &Pair<C>, round: u32)
     requires pieces { seat.old.view.send.pieces ≡ pieces seat.old.view.geometry }
     requires opened { seat.old.view.send.opened ≡ 0 }
     requires limit { round ≤ LAST_ROUND }
-    ensures seat { seat.new ≡ record seat.old { view = claims_stored (claim_words seat.old.view.geometry) seat.old.view } }
+    ensures seat { seat.new ≡ record seat.old {
+      view = claims_stored (claim_words seat.old.view.geometry) seat.old.view;
+    } }
     ensures geometry { seat.new.view.geometry ≡ seat.old.view.geometry }
     ensures side { seat.new.view.send ≡ record seat.old.view.send { opened = claim_words seat.old.view.geometry } }
 {
+    // What the seat or the tables say of themselves, for the proof.
     let _round = seat.round();
     for c in 0..claim_words(pair) {
         pair.store_claim(seat, round, c);
@@ -58,8 +71,8 @@ fn store_claims<C: Content>(seat: &mut SendSeat<C>, pair: &Pair<C>, round: u32)
 }
 
 impl<C: Content> SendEnd<C> {
-    /// Starts the next round (`MPI_Start`, MPI 4.0, 3.9), and answers it: all piece words are stored for it, and then all
-    /// claim words, which opens it for marks. Refused where the end is active, or has had all 2,147,483,647 rounds;
+    /// Starts the next round (`MPI_Start`, MPI 4.0, 3.9), and answers it: all piece words are stored for it, and then
+    /// all claim words, which opens it for marks. Refused where the end is active, or has had all 2,147,483,647 rounds;
     /// nothing changes then.
     pub fn start(&mut self, pair: &Pair<C>) -> Result<u32, StartFault>
         requires pair { IsOf self.old.table self.old.view pair.now }

@@ -26,6 +26,7 @@ fn look_at_claims<C: Content>(seat: &mut SendSeat<C>, pair: &Pair<C>) -> Option<
         (Stops seat.old.view seat.new.view) }
 {
     let parts = pair.geometry().send_parts();
+    // What the seat or the tables say of themselves, for the proof.
     let _round = seat.round();
     for c in 0..claim_words(pair) {
         let shown = pair.load_claim(seat, c);
@@ -47,6 +48,7 @@ fn look_at_pieces<C: Content>(seat: &mut SendSeat<C>, pair: &Pair<C>) -> Option<
     ensures answer { MatchOption result (AreFull seat.new.view (pieces seat.old.view.geometry))
         (Stops seat.old.view seat.new.view) }
 {
+    // What the seat or the tables say of themselves, for the proof.
     let _geometry = pair.geometry();
     let tables = pair.tables();
     let round = seat.round();
@@ -112,16 +114,19 @@ fn shut_claims<C: Content>(seat: &mut SendSeat<C>, pair: &Pair<C>)
       send = record seat.old.view.send { shut = claim_words seat.old.view.geometry };
     } }
 {
+    // What the seat or the tables say of themselves, for the proof.
     let _round = seat.round();
     for c in 0..claim_words(pair) {
+        // What the seat or the tables say of themselves, for the proof.
         let _found = pair.shut_claim(seat, c);
     }
 }
 
 impl<C: Content> SendEnd<C> {
-    /// Tests the round (`MPI_Test`, MPI 4.0, 4.2.2): looks at the claim words, at the piece words of the round and at the
-    /// release word, in this order. Where all partitions are marked, all pieces are full and the next round has room, it
-    /// shuts the claim words and the end is inactive; with every other answer nothing but what the end has seen changes.
+    /// Tests the round (`MPI_Test`, MPI 4.0, 4.2.2): looks at the claim words, at the piece words of the round and at
+    /// the release word, in this order. Where all partitions are marked, all pieces are full and the next round has
+    /// room, it shuts the claim words and the end is inactive; with every other answer nothing but what the end has
+    /// seen changes.
     pub fn test(&mut self, pair: &Pair<C>) -> SendTest
         requires pair { IsOf self.old.table self.old.view pair.now }
         ensures table { self.new.table ≡ self.old.table }
