@@ -1,0 +1,5 @@
+pub mod Ends
+pub mod Looking
+pub mod Marking
+pub mod Many
+pub mod Testing
