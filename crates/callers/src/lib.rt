@@ -11,6 +11,7 @@ pub mod part_api_caller;
 pub mod part_geometry_caller;
 pub mod part_io_caller;
 pub mod part_recv_caller;
+pub mod part_send_caller;
 pub mod part_tables_caller;
 pub mod plain_pair_caller;
 pub mod script_pair_caller;
