@@ -117,7 +117,7 @@ impl<C: Content> SendEnd<C> {
     {
         // What the seat or the tables say of themselves, for the proof.
         let _round = self.seat.round();
-        // What the seat or the tables say of themselves, for the proof.
+        // The word found is in the end's view, which contracts alone see.
         let _found = pair.join_marker(&mut self.seat, marker.into_seat());
         self.out = self.out.saturating_sub(1);
     }
@@ -130,7 +130,7 @@ impl<C: Content> SendEnd<C> {
         ensures { (w : ℕ) × IsLater (seen (told self.old.view note.view) (Claim 0)) w
             × (self.new ≡ record self.old { view = saw (Claim 0) w (told self.old.view note.view) }) }
     {
-        // What the seat or the tables say of themselves, for the proof.
+        // The word found is in the end's view, which contracts alone see.
         let _found = pair.learn_send(&mut self.seat, note);
     }
 

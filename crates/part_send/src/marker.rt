@@ -45,7 +45,7 @@ impl<C: Content> Marker<C> {
         ensures { (w : ℕ) × IsLater (seen (told self.old.view note.view) (Claim 0)) w
             × (self.new ≡ record self.old { view = saw (Claim 0) w (told self.old.view note.view) }) }
     {
-        // What the seat or the tables say of themselves, for the proof.
+        // The word found is in the marker's view, which contracts alone see.
         let _found = pair.learn_marker(&mut self.seat, note);
     }
 

@@ -117,7 +117,7 @@ fn shut_claims<C: Content>(seat: &mut SendSeat<C>, pair: &Pair<C>)
     // What the seat or the tables say of themselves, for the proof.
     let _round = seat.round();
     for c in 0..claim_words(pair) {
-        // What the seat or the tables say of themselves, for the proof.
+        // The word found is in the end's view, which contracts alone see.
         let _found = pair.shut_claim(seat, c);
     }
 }
