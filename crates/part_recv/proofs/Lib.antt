@@ -9,3 +9,4 @@ pub mod Ending
 pub mod Finding
 pub mod Arriving
 pub mod Testing
+pub mod Beginning

@@ -10,8 +10,8 @@ use Rattle.part_recv.specs.declared.looking.Missed.{Missed}
 -- what the receive side has seen full in its round is full in it still
 abbrev pub StaysFull : ℕ → ℕ → ℕ → View → Type 0
 StaysFull k i w d =
-    d.number ≡ 1 → d.recv.released ≡ 0 → k ≡ d.recv.round → IsFull d.geometry (seen d (Piece (place_in d k) i)) k i
-    → IsFull d.geometry w k i
+    d.number ≡ 1 → d.recv.released ≡ 0 → k ≡ d.recv.round
+    → IsFull d.geometry (seen d (Piece (place_in d k) i)) k i → IsFull d.geometry w k i
 
 abbrev pub Found : ℕ → ℕ → Option Missed → View → View → Type 0
 Found k q None old new = SeesAll k q old new

@@ -1,6 +1,5 @@
 -- The receive end as callers see it, its rounds and its tests.
-use Rattle.std.specs.Prelude.{◌≡◌, ℕ, zero, suc, ◌+◌, ◌*◌, ◌<◌, ◌≤◌, Bool, true, false, not, ◌==◌, if◌then◌else◌}
-use Rattle.std.specs.Prelude.{List, [], map, position, Some, None, Result, Ok, Err, is_ok}
+use Rattle.std.specs.Prelude.{◌≡◌, ℕ, zero, suc, ◌+◌, ◌*◌, ◌<◌, ◌≤◌, Bool, true, false, not, ◌==◌, if◌then◌else◌, List, [], map, position, Some, None, Result, Ok, Err, is_ok}
 use Rattle.std.specs.Option.{option_map_or}
 use mathlib.Core.Option.{some}
 use lib.ListN.{get_elem?}
@@ -10,13 +9,15 @@ use Rattle.part_geometry.specs.declared.answers.RecvTest.{RecvTest}
 use Rattle.part_geometry.specs.declared.answers.RecvTest.TheVariants.{Idle, Untaken, Out, Done}
 use Rattle.part_geometry.specs.declared.answers.StartFault.{StartFault}
 use Rattle.part_geometry.specs.declared.answers.StartFault.TheVariants.{AlreadyActive, RoundsSpent}
+use Rattle.part_geometry.specs.Shape.{Shape}
 use Rattle.part_geometry.specs.Cells.{cells}
 use Rattle.pair_core.specs.Names.{take_words}
 use Rattle.pair_core.specs.Moves.{IsRecvIdle, IsRecvActive}
 use Rattle.slot_rows.specs.declared.lane.Lane.{Lane}
 use Rattle.slot_rows.specs.Lanes.{rows_of}
 use Rattle.pair_rule.specs.Seats.{RecvHeld, cells_of}
-use Rattle.pair_rule.specs.Parts.{place_of}
+use Rattle.pair_rule.specs.First.{first_view, receiver}
+use Rattle.pair_rule.specs.Parts.{place_of, first_shelves}
 use Rattle.pair_rule.specs.Views.{stored_return, stored_take, released}
 use Rattle.pair_rule.specs.declared.view.View.{View}
 
@@ -48,6 +49,10 @@ pub record IsAtRest (s : RecvHeld) : Type 0 where
   pub idle : IsRecvIdle s.view.recv
   pub alone : s.view.recv.watchers ≡ 0
   pub shelves : (q : ℕ) → q < s.view.geometry.recv_parts → HasShelf q s
+
+-- the receive seat of a new pair is one
+abbrev pub FirstRests : Type 0
+FirstRests = (g : Shape) (s : RecvHeld) → s.view ≡ receiver (first_view g) → s.shelves ≡ first_shelves g → IsAtRest s
 
 -- what an end keeps of its seat: the buffers of the partitions that are out are lent, and the others have their shelves
 pub record IsEnd (active : Bool) (watchers : ℕ) (s : RecvHeld) : Type 0 where

@@ -83,6 +83,10 @@ IsRefused q BadPartition old new = (is_active old.view ≡ true) × (old.view.ge
 IsRefused q (AlreadyTaken k) old new = MayLook q old × IsTaken q old × (k ≡ old.view.recv.round) × (new ≡ old)
 IsRefused q (NotYet i w) old new = MayLook q old × HasFlags false false q old.lanes × Looked q i w old new
 
+-- why it may be: it isn't taken in the round, and all pieces over it are full
+abbrev pub MayTake : ℕ → End → End → Type 0
+MayTake q old new = MayLook q old × HasFlags false false q old.lanes × LookedAll q old new
+
 -- the end with partition q taken in its round with these bytes, and with q given back
 abbrev pub took : ℕ → List ℕ → End → End
 took q b s = record s {
@@ -96,14 +100,19 @@ gave_back q s = record s {
   lanes = flagged true false q s.lanes;
 }
 
--- Partition q was taken: all its pieces were seen full in the end's round, and it wasn't taken before. The take has
--- the bytes of the arrival, as many as the partition has, each allowed at its place.
+-- Partition q was taken: all its pieces were seen full in the end's round, and it wasn't taken before. The take has the
+-- bytes of the arrival, as many as the partition has, each allowed at its place.
 pub record Takes (may : ℕ → ℕ → ℕ → Type 0) (q : ℕ) (a : Arrived) (old new : End) : Type 0 where
   pub active : MayLook q old
   pub free : HasFlags false false q old.lanes
   pub at : End
   pub looks : LookedAll q old at
-  pub arrival : a ≡ record { geometry = old.view.geometry; round = old.view.recv.round; partition = q; bytes = a.bytes }
+  pub arrival : a ≡ record {
+    geometry = old.view.geometry;
+    round = old.view.recv.round;
+    partition = q;
+    bytes = a.bytes;
+  }
   pub end : new ≡ took q a.bytes at
   pub long : length a.bytes ≡ old.view.geometry.recv_bytes
   pub allowed : (j : ℕ) → j < length a.bytes

@@ -17,7 +17,7 @@ IsNew k i d = ¬ IsFull d.geometry (seen d (Piece (place_in d k) i)) k i
 -- later one
 abbrev pub IsLook : ℕ → ℕ → Look → View → View → Type 0
 IsLook k q BadPartition old new = (old.geometry.recv_parts ≤ q) × (new ≡ old)
-IsLook k q (NotYet i w) old new = (q < old.geometry.recv_parts) × Misses k q i w old new × (round_in w ≤ k)
-    × IsNew k i old
+IsLook k q (NotYet i w) old new =
+    (q < old.geometry.recv_parts) × Misses k q i w old new × (round_in w ≤ k) × IsNew k i old
 IsLook k q (Past w) old new = (q < old.geometry.recv_parts) × (k < round_in w) × ((i : ℕ) × Misses k q i w old new)
 IsLook k q Arrived old new = (q < old.geometry.recv_parts) × SeesAll k q old new

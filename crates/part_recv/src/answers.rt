@@ -2,7 +2,8 @@
 
 use thiserror::Error;
 
-/// Whether a receive partition has arrived in the named round, by a watcher's look (`MPI_Parrived`, MPI 4.0, 4.2.2).
+/// Whether a receive partition has arrived in the named round, by a watcher's look (`MPI_Parrived`, MPI 4.0,
+/// 4.2.2).
 #[derive(Clone, Copy, Debug, PartialEq, Eq)]
 pub enum Look {
     /// The receiver has no such partition.

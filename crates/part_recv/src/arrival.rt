@@ -7,9 +7,9 @@ use pair_rule::{Content, Shelf};
 use part_geometry::Geometry;
 use std::marker::{Model, PhantomData};
 
-/// The bytes of one receive partition in one round, with the buffers that have them, owned by whoever took them. It
-/// may be moved to another thread. Where it is dropped the partition stays out. Contracts see the round, the
-/// partition and the bytes.
+/// The bytes of one receive partition in one round, with the buffers that have them, owned by whoever took
+/// them. It may be moved to another thread. Where it is dropped the partition stays out. Contracts see the
+/// round, the partition and the bytes.
 pub struct Arrival<C: Content> {
     geometry: Geometry,
     round: u32,

@@ -13,6 +13,6 @@ mod watcher;
 
 pub use answers::{EndLook, Look, TakeRefusal};
 pub use arrival::Arrival;
-pub use laws::piece_laws;
+pub use laws::{first_laws, piece_laws};
 pub use recv_end::RecvEnd;
 pub use watcher::Watcher;

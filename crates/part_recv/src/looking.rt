@@ -52,6 +52,7 @@ pub(crate) fn look_over<C: Content, S: Seated<C>>(
 ) -> Option<Missed>
     requires pair { IsOf (S.table_of seat.old) (S.view_of seat.old) pair.now }
     requires part { q < pair.now.key.geometry.recv_parts }
+    ensures pair { IsOf (S.table_of seat.new) (S.view_of seat.new) pair.now }
     ensures found { (d : _) × (seat.new ≡ S.with_view seat.old d) × Found round q result (S.view_of seat.old) d }
 {
     let tables = pair.tables();

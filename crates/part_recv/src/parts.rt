@@ -28,7 +28,8 @@ pub(crate) fn take_part<C: Content>(pair: &Pair<C>, seat: &mut RecvSeat<C>, q: u
     shelf
 }
 
-/// Moves the buffers of a shelf into the slots of partition `q`, which are out and empty, and gives the partition back.
+/// Moves the buffers of a shelf into the slots of partition `q`, which are out and empty, and gives the
+/// partition back.
 pub(crate) fn return_part<C: Content>(
     pair: &Pair<C>,
     seat: &mut RecvSeat<C>,
@@ -40,8 +41,8 @@ pub(crate) fn return_part<C: Content>(
     requires flags { HasFlags true true q seat.old.lanes }
     requires out { HasOut (place_of seat.old.view) q (replicate (cells_of seat.old.view.geometry q) None) seat.old }
     requires full { length shelf.bufs ≡ cells_of seat.old.view.geometry q }
-    requires of { AreOf seat.old.view.geometry seat.old.view.recv.round
-        (first_received seat.old.view.geometry q) shelf.bufs }
+    requires of { let g = seat.old.view.geometry in
+        AreOf g seat.old.view.recv.round (first_received g q) shelf.bufs }
     ensures { seat.new ≡ part_returned q shelf seat.old }
 {
     // What the seat or the tables say of themselves, for the proof.

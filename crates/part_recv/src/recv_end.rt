@@ -1,7 +1,6 @@
 //! The receive end.
 
-ghost use Rattle.std.specs.Prelude.{◌≡◌, ◌<◌, ◌≤◌, ◌%◌, ◌^◌, [], true, false, length, not, position, IfOk};
-ghost use Rattle.std.specs.Prelude.{MatchResult, MatchOption};
+ghost use Rattle.std.specs.Prelude.{◌≡◌, ◌<◌, ◌≤◌, true, false, length, not, position, IfOk, MatchResult, MatchOption};
 ghost use Rattle.slot_rows.specs.declared.lane.Lane.{Lane};
 ghost use Rattle.slot_rows.specs.Lanes.{HasFlags};
 ghost use mathlib.Core.Option.{some};
@@ -9,11 +8,10 @@ ghost use lib.ListN.{get_elem?};
 ghost use Rattle.part_geometry.specs.declared.TheConstants.{LAST_ROUND};
 ghost use Rattle.pair_rule.specs.First.{note, watcher, with_watcher, with_watcher_back};
 ghost use Rattle.pair_rule.specs.Views.{told};
-ghost use Rattle.pair_rule.specs.Seats.{IsOf, RecvHeld};
+ghost use Rattle.pair_rule.specs.Seats.{IsOf};
 ghost use Rattle.part_recv.specs.Hearing.{Hears};
-ghost use Rattle.part_recv.specs.Receiving.{IsAtRest, IsSide, end_of, is_active, start_answer, after_start};
-ghost use Rattle.part_recv.specs.Receiving.{test_answer, after_test};
-ghost use Rattle.part_recv.specs.Taking.{IsEndLook, IsOut, IsRefused, Looked, LookedAll, MayLook, Takes, gave_back};
+ghost use Rattle.part_recv.specs.Receiving.{IsAtRest, IsSide, end_of, is_active, start_answer, after_start, test_answer, after_test};
+ghost use Rattle.part_recv.specs.Taking.{IsEndLook, IsOut, IsRefused, Looked, LookedAll, MayLook, MayTake, Takes, gave_back};
 
 use crate::answers::{EndLook, TakeRefusal};
 use crate::arrival::Arrival;
@@ -26,9 +24,9 @@ use part_geometry::{LAST_ROUND, RecvTest, StartFault};
 use slot_rows::Lane;
 use std::marker::Model;
 
-/// The receive side of a running pair between two calls: it is active in its round, or inactive. It alone starts the
-/// rounds of the receive side, takes partitions, gives them back and releases rounds. Contracts see its table, what
-/// it knows, and of each partition whether it was taken in its round and is out.
+/// The receive side of a running pair between two calls: it is active in its round, or inactive. It alone
+/// starts the rounds of the receive side, takes partitions, gives them back and releases rounds. Contracts see
+/// its table, what it knows, and of each partition whether it was taken in its round and is out.
 pub struct RecvEnd<C: Content> {
     seat: RecvSeat<C>,
     active: bool,
@@ -68,14 +66,14 @@ fn first_out(lanes: &[Lane]) -> Option<usize>
 }
 
 impl<C: Content> RecvEnd<C> {
-    /// The end that a seat makes. The seat's side is inactive, no watcher of it is out, and it has the shelf of each
-    /// partition, as `Pair::create` gives it and `into_seat` gives it back.
+    /// The end that a seat makes. The seat's side is inactive, no watcher of it is out, and it has the shelf of
+    /// each partition, as `Pair::create` gives it and `into_seat` gives it back.
     pub fn from_seat(pair: &Pair<C>, seat: RecvSeat<C>) -> RecvEnd<C>
         requires pair { IsOf seat.table seat.view pair.now }
         requires rest { IsAtRest seat }
         ensures { result ≡ end_of seat }
     {
-        // The pair is named by the contract alone.
+        // The contract alone speaks of it.
         let _ = pair;
         // What the seat or the tables say of themselves, for the proof.
         let _lanes = seat.lanes();
@@ -125,11 +123,12 @@ impl<C: Content> RecvEnd<C> {
         self.watchers
     }
 
-    /// A watcher, which has seen what the end has seen. The end counts it until it rejoins; a pair is closed only
-    /// when all have.
+    /// A watcher, which has seen what the end has seen. The end counts it until it rejoins; a pair is closed
+    /// only when all have.
     pub fn watcher(&mut self, pair: &Pair<C>) -> Watcher<C>
         requires pair { IsOf self.old.table self.old.view pair.now }
         requires room { self.old.view.recv.watchers < u32.MAX }
+        ensures pair { IsOf self.new.table self.new.view pair.now }
         ensures end { self.new ≡ record self.old { view = with_watcher self.old.view } }
         ensures watcher { result ≡ record { table = self.old.table; view = watcher self.old.view } }
     {
@@ -137,11 +136,12 @@ impl<C: Content> RecvEnd<C> {
         Watcher::of(pair.split_watcher(&mut self.seat))
     }
 
-    /// A watcher of this pair rejoins the end, which has then seen what both have seen; then the end looks at claim
-    /// word 0.
+    /// A watcher of this pair rejoins the end, which has then seen what both have seen; then the end looks at
+    /// claim word 0.
     pub fn rejoin(&mut self, pair: &Pair<C>, watcher: Watcher<C>)
         requires pair { IsOf self.old.table self.old.view pair.now }
         requires same { watcher.table ≡ self.old.table }
+        ensures pair { IsOf self.new.table self.new.view pair.now }
         ensures told { Hears (with_watcher_back self.old.view watcher.view) self.new.view }
         ensures rest { self.new ≡ record self.old { view = self.new.view } }
     {
@@ -152,17 +152,19 @@ impl<C: Content> RecvEnd<C> {
     /// A note of what the end has seen.
     pub fn note(&mut self, pair: &Pair<C>) -> Note<C>
         requires pair { IsOf self.old.table self.old.view pair.now }
+        ensures pair { IsOf self.new.table self.new.view pair.now }
         ensures end { self.new ≡ self.old }
         ensures note { result ≡ record { table = self.old.table; view = note self.old.view } }
     {
         pair.note_of_recv(&mut self.seat)
     }
 
-    /// The end is told what the giver of a note had seen, and has then seen what both had; then it looks at claim
-    /// word 0.
+    /// The end is told what the giver of a note had seen, and has then seen what both had; then it looks at
+    /// claim word 0.
     pub fn learn(&mut self, pair: &Pair<C>, note: Note<C>)
         requires pair { IsOf self.old.table self.old.view pair.now }
         requires same { note.table ≡ self.old.table }
+        ensures pair { IsOf self.new.table self.new.view pair.now }
         ensures told { Hears (told self.old.view note.view) self.new.view }
         ensures rest { self.new ≡ record self.old { view = self.new.view } }
     {
@@ -187,12 +189,14 @@ impl<C: Content> RecvEnd<C> {
     }
 
     /// Starts the next round (`MPI_Start`, MPI 4.0, 3.9), and answers its number: no partition is taken in it.
-    /// Refused while the end is active, and after the last round; nothing changes then. It doesn't depend on the
-    /// sender.
+    /// Refused while the end is active, and after the last round; nothing changes then. It doesn't depend on
+    /// the sender.
     pub fn start(&mut self, pair: &Pair<C>) -> Result<u32, StartFault>
         requires pair { IsOf self.old.table self.old.view pair.now }
+        ensures pair { IsOf self.new.table self.new.view pair.now }
         ensures answer { result ≡ start_answer self.old.view }
         ensures end { self.new ≡ after_start self.old }
+        ensures active { IfOk result (λ k. (self.new.view.recv.round ≡ k) × IsSide true self.new.view) }
     {
         let round = self.next_round()?;
         open_round(pair, &mut self.seat, round);
@@ -204,7 +208,8 @@ impl<C: Content> RecvEnd<C> {
     fn look(&mut self, pair: &Pair<C>, q: u32) -> Option<Missed>
         requires pair { IsOf self.old.table self.old.view pair.now }
         requires part { MayLook q self.old }
-        ensures { MatchOption result (LookedAll q self.old self.new)
+        ensures pair { IsOf self.new.table self.new.view pair.now }
+        ensures found { MatchOption result (LookedAll q self.old self.new)
             (λ missed. Looked q missed.piece missed.shown self.old self.new) }
     {
         // What the seat or the tables say of themselves, for the proof.
@@ -213,12 +218,13 @@ impl<C: Content> RecvEnd<C> {
         look_over(pair, &mut self.seat, round, q)
     }
 
-    /// Whether receive partition `q` has arrived in the end's round (`MPI_Parrived`, MPI 4.0, 4.2.2): looks at the
-    /// pieces over it in order, up to the first that isn't full. A piece that the end has seen full in its round is
-    /// never the answer of `NotYet`.
+    /// Whether receive partition `q` has arrived in the end's round (`MPI_Parrived`, MPI 4.0, 4.2.2): looks at
+    /// the pieces over it in order, up to the first that isn't full. A piece that the end has seen full in its
+    /// round is never the answer of `NotYet`.
     pub fn parrived(&mut self, pair: &Pair<C>, q: u32) -> EndLook
         requires pair { IsOf self.old.table self.old.view pair.now }
-        ensures { IsEndLook q result self.old self.new }
+        ensures pair { IsOf self.new.table self.new.view pair.now }
+        ensures look { IsEndLook q result self.old self.new }
     {
         if !self.active {
             return EndLook::Idle;
@@ -236,8 +242,8 @@ impl<C: Content> RecvEnd<C> {
     /// The first cause against a take of partition `q`; the pieces over it are looked at last.
     fn refuse_take(&mut self, pair: &Pair<C>, q: u32) -> Result<(), TakeRefusal>
         requires pair { IsOf self.old.table self.old.view pair.now }
-        ensures { MatchResult result
-            (λ _. MayLook q self.old × HasFlags false false q self.old.lanes × LookedAll q self.old self.new)
+        ensures pair { IsOf self.new.table self.new.view pair.now }
+        ensures answer { MatchResult result (λ _. MayTake q self.old self.new)
             (λ refusal. IsRefused q refusal self.old self.new) }
     {
         if !self.active {
@@ -257,12 +263,13 @@ impl<C: Content> RecvEnd<C> {
         Err(TakeRefusal::NotYet { piece, shown })
     }
 
-    /// Takes receive partition `q` of the end's round: the buffers with its bytes go over to the caller, which are
-    /// those that were marked in this round. The pieces over the partition are looked at first, in order. Refused
-    /// while the end is inactive, where it has no such partition, where the partition was taken in this round, and
-    /// where a piece over it isn't full; no partition is taken then. It takes no memory.
+    /// Takes receive partition `q` of the end's round: the buffers with its bytes go over to the caller, which
+    /// are those that were marked in this round. The pieces over the partition are looked at first, in order.
+    /// Refused while the end is inactive, where it has no such partition, where the partition was taken in this
+    /// round, and where a piece over it isn't full; no partition is taken then. It takes no memory.
     pub fn take(&mut self, pair: &Pair<C>, q: u32) -> Result<Arrival<C>, TakeRefusal>
         requires pair { IsOf self.old.table self.old.view pair.now }
+        ensures pair { IsOf self.new.table self.new.view pair.now }
         ensures answer { MatchResult result (λ taken. Takes (C.may pair.now.key.tag) q taken self.old self.new)
             (λ refusal. IsRefused q refusal self.old self.new) }
         ensures out { IfOk result (λ taken. IsOut taken self.new) }
@@ -280,7 +287,8 @@ impl<C: Content> RecvEnd<C> {
     pub fn give_back(&mut self, pair: &Pair<C>, arrival: Arrival<C>)
         requires pair { IsOf self.old.table self.old.view pair.now }
         requires out { IsOut arrival self.old }
-        ensures { self.new ≡ gave_back arrival.partition self.old }
+        ensures pair { IsOf self.new.table self.new.view pair.now }
+        ensures end { self.new ≡ gave_back arrival.partition self.old }
     {
         let q = arrival.partition();
         // What the seat or the tables say of themselves, for the proof.
@@ -288,10 +296,11 @@ impl<C: Content> RecvEnd<C> {
         return_part(pair, &mut self.seat, q, arrival.into_shelf());
     }
 
-    /// Tests the receive (`MPI_Test`, MPI 4.0, 4.2.2). Where all partitions were taken and given back, the round is
-    /// released and the end is inactive; with every other answer nothing changes.
+    /// Tests the receive (`MPI_Test`, MPI 4.0, 4.2.2). Where all partitions were taken and given back, the
+    /// round is released and the end is inactive; with every other answer nothing changes.
     pub fn test(&mut self, pair: &Pair<C>) -> RecvTest
         requires pair { IsOf self.old.table self.old.view pair.now }
+        ensures pair { IsOf self.new.table self.new.view pair.now }
         ensures answer { result ≡ test_answer self.old }
         ensures end { self.new ≡ after_test self.old }
     {

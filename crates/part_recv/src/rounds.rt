@@ -17,8 +17,9 @@ pub(crate) fn open_round<C: Content>(pair: &Pair<C>, seat: &mut RecvSeat<C>, rou
     ensures seat { seat.new ≡ record seat.old { view = opened seat.old.view; lanes = all_untaken seat.old.lanes } }
     ensures home { AreHome seat.old.lanes }
     ensures geometry { seat.new.view.geometry ≡ seat.old.view.geometry }
-    ensures side { IsRecvActive seat.new.view.geometry seat.new.view.recv
-        × (seat.new.view.recv.watchers ≡ seat.old.view.recv.watchers) }
+    ensures side { IsRecvActive seat.new.view.geometry seat.new.view.recv }
+    ensures round { seat.new.view.recv.round ≡ round }
+    ensures watchers { seat.new.view.recv.watchers ≡ seat.old.view.recv.watchers }
 {
     // What the seat or the tables say of themselves, for the proof.
     let _lanes = seat.lanes();

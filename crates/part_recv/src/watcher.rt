@@ -14,8 +14,8 @@ use gate_word::round_of;
 use pair_rule::{Content, Note, Pair, WatchSeat};
 use std::marker::Model;
 
-/// A watcher of a receive end: any thread may have one, and see by it which partitions have arrived. It takes none.
-/// Contracts see its table and what it knows.
+/// A watcher of a receive end: any thread may have one, and see by it which partitions have arrived. It takes
+/// none. Contracts see its table and what it knows.
 pub struct Watcher<C: Content> {
     seat: WatchSeat<C>,
 }
@@ -42,12 +42,13 @@ impl<C: Content> Watcher<C> {
         seat
     }
 
-    /// Whether receive partition `q` has arrived in a round, 1 to 2,147,483,647 (`MPI_Parrived`, MPI 4.0, 4.2.2):
-    /// looks at the pieces over it in order, up to the first that isn't full in the round. A piece that the watcher
-    /// has seen full in the round is never the answer of `NotYet`.
+    /// Whether receive partition `q` has arrived in a round, 1 to 2,147,483,647 (`MPI_Parrived`, MPI 4.0,
+    /// 4.2.2): looks at the pieces over it in order, up to the first that isn't full in the round. A piece that
+    /// the watcher has seen full in the round is never the answer of `NotYet`.
     pub fn parrived(&mut self, pair: &Pair<C>, round: u32, q: u32) -> Look
         requires pair { IsOf self.old.table self.old.view pair.now }
         requires round { (1 ≤ round) × (round ≤ LAST_ROUND) }
+        ensures pair { IsOf self.new.table self.new.view pair.now }
         ensures table { self.new.table ≡ self.old.table }
         ensures look { IsLook round q result self.old.view self.new.view }
     {
@@ -67,17 +68,19 @@ impl<C: Content> Watcher<C> {
     /// A note of what the watcher has seen.
     pub fn note(&mut self, pair: &Pair<C>) -> Note<C>
         requires pair { IsOf self.old.table self.old.view pair.now }
+        ensures pair { IsOf self.new.table self.new.view pair.now }
         ensures seat { self.new ≡ self.old }
         ensures note { result ≡ record { table = self.old.table; view = note self.old.view } }
     {
         pair.note_of_watcher(&mut self.seat)
     }
 
-    /// The watcher is told what the giver of a note had seen, and has then seen what both had; then it looks at claim
-    /// word 0.
+    /// The watcher is told what the giver of a note had seen, and has then seen what both had; then it looks at
+    /// claim word 0.
     pub fn learn(&mut self, pair: &Pair<C>, note: Note<C>)
         requires pair { IsOf self.old.table self.old.view pair.now }
         requires same { note.table ≡ self.old.table }
+        ensures pair { IsOf self.new.table self.new.view pair.now }
         ensures table { self.new.table ≡ self.old.table }
         ensures told { Hears (told self.old.view note.view) self.new.view }
     {

@@ -38,33 +38,40 @@ loop-piece-preserved g c =
     walk_goes g.S.Seated.with_view g.S.Seated.view_of g.S.Seated.table_of laws.has_view laws.has_table laws.has_last c.args.round c.place-place.result c.pieces_over-first.result.0
     c.loop-piece.piece c.load_piece-shown.result c.args.seat.now c.loop-piece.seat c.load_piece-shown.new.seat c.loop-piece.invariant c.load_piece-shown.ensures.step c.load_piece-shown.ensures.told.later full
 
-pub returns-then-not-is_full : goal.returns-then-not-is_full
-returns-then-not-is_full g c =
+pub returns-then-not-is_full-clause-found : goal.returns-then-not-is_full-clause-found
+returns-then-not-is_full-clause-found g c =
     let laws = g.met.S.Seated in
     let from : View = g.S.Seated.view_of c.args.seat.now in
     let same : c.tables-tables.result.now ≡ from.geometry = c.tables-tables.ensures ∙ sym c.requires.pair.1 in
-    record {
-      found =
-          walk_stops g.S.Seated.with_view g.S.Seated.view_of g.S.Seated.table_of laws.has_view laws.has_table laws.has_last c.args.round c.place-place.result c.pieces_over-first.result.0
-          c.loop-piece.piece c.load_piece-shown.result c.args.seat.now c.loop-piece.seat c.load_piece-shown.new.seat c.loop-piece.invariant c.load_piece-shown.ensures.step c.load_piece-shown.ensures.told.later
-          c.args.q (c.place-place.ensures.value ∙ ap (λ (z : Shape). c.args.round % z.depth) same)
-          (ap (λ (z : ℕ × ℕ). z.0) c.pieces_over-first.ensures.value ∙ ap (λ (z : Shape). first_piece z c.args.q) same)
-          (let after : c.pieces_over-first.result.1 ≡ after_piece from.geometry c.args.q = ap (λ (z : ℕ × ℕ). z.1) c.pieces_over-first.ensures.value ∙ ap (λ (z : Shape). after_piece z c.args.q) same in omega arith)
-          (λ full. true≢false (sym (c.is_full.ensures.1 (subst (λ (z : Shape). IsFull z c.load_piece-shown.result c.args.round c.loop-piece.piece) (sym same) full)) ∙ c.if-not-is_full.true))
-          c.load_piece-shown.ensures.told.full;
-    }
+    walk_stops g.S.Seated.with_view g.S.Seated.view_of g.S.Seated.table_of laws.has_view laws.has_table laws.has_last c.args.round c.place-place.result c.pieces_over-first.result.0
+    c.loop-piece.piece c.load_piece-shown.result c.args.seat.now c.loop-piece.seat c.load_piece-shown.new.seat c.loop-piece.invariant c.load_piece-shown.ensures.step c.load_piece-shown.ensures.told.later
+    c.args.q (c.place-place.ensures.value ∙ ap (λ (z : Shape). c.args.round % z.depth) same)
+    (ap (λ (z : ℕ × ℕ). z.0) c.pieces_over-first.ensures.value ∙ ap (λ (z : Shape). first_piece z c.args.q) same)
+    (let after : c.pieces_over-first.result.1 ≡ after_piece from.geometry c.args.q = ap (λ (z : ℕ × ℕ). z.1) c.pieces_over-first.ensures.value ∙ ap (λ (z : Shape). after_piece z c.args.q) same in omega arith)
+    (λ full. true≢false (sym (c.is_full.ensures.1 (subst (λ (z : Shape). IsFull z c.load_piece-shown.result c.args.round c.loop-piece.piece) (sym same) full)) ∙ c.if-not-is_full.true))
+    c.load_piece-shown.ensures.told.full
 
-pub returns : goal.returns
-returns g c =
+pub returns-clause-found : goal.returns-clause-found
+returns-clause-found g c =
     let laws = g.met.S.Seated in
     let from : View = g.S.Seated.view_of c.args.seat.now in
     let same : c.tables-tables.result.now ≡ from.geometry = c.tables-tables.ensures ∙ sym c.requires.pair.1 in
-    record {
-      found =
-          walk_ends g.S.Seated.with_view g.S.Seated.view_of g.S.Seated.table_of laws.has_view laws.has_table laws.has_last c.args.round c.place-place.result c.pieces_over-first.result.0
-          c.loop-piece.piece c.args.q c.args.seat.now c.loop-piece.seat c.loop-piece.invariant
-          (let some = c.pieces_over-first.ensures.inside.0 in let over = c.loop-piece-test.false in omega arith)
-          (let after : c.pieces_over-first.result.1 ≡ after_piece from.geometry c.args.q = ap (λ (z : ℕ × ℕ). z.1) c.pieces_over-first.ensures.value ∙ ap (λ (z : Shape). after_piece z c.args.q) same in let some = c.pieces_over-first.ensures.inside.0 in let over = c.loop-piece-test.false in let end = c.loop-piece.auto.piece-end in omega arith)
-          (c.place-place.ensures.value ∙ ap (λ (z : Shape). c.args.round % z.depth) same)
-          (ap (λ (z : ℕ × ℕ). z.0) c.pieces_over-first.ensures.value ∙ ap (λ (z : Shape). first_piece z c.args.q) same);
-    }
+    walk_ends g.S.Seated.with_view g.S.Seated.view_of g.S.Seated.table_of laws.has_view laws.has_table laws.has_last c.args.round c.place-place.result c.pieces_over-first.result.0
+    c.loop-piece.piece c.args.q c.args.seat.now c.loop-piece.seat c.loop-piece.invariant
+    (let some = c.pieces_over-first.ensures.inside.0 in let over = c.loop-piece-test.false in omega arith)
+    (let after : c.pieces_over-first.result.1 ≡ after_piece from.geometry c.args.q = ap (λ (z : ℕ × ℕ). z.1) c.pieces_over-first.ensures.value ∙ ap (λ (z : Shape). after_piece z c.args.q) same in let some = c.pieces_over-first.ensures.inside.0 in let over = c.loop-piece-test.false in let end = c.loop-piece.auto.piece-end in omega arith)
+    (c.place-place.ensures.value ∙ ap (λ (z : Shape). c.args.round % z.depth) same)
+    (ap (λ (z : ℕ × ℕ). z.0) c.pieces_over-first.ensures.value ∙ ap (λ (z : Shape). first_piece z c.args.q) same)
+
+pub returns-then-not-is_full-clause-pair : goal.returns-then-not-is_full-clause-pair
+returns-then-not-is_full-clause-pair g c =
+    let laws = g.met.S.Seated in let h = c.loop-piece.invariant in let step = c.load_piece-shown.ensures.step in (
+      ap g.S.Seated.table_of step ∙ (laws.has_table _ _ ∙ (h.table ∙ c.requires.pair.0)),
+      ap (λ (z : View). z.geometry) (ap g.S.Seated.view_of step ∙ laws.has_view _ _)
+          ∙ (ap (λ (z : View). z.geometry) h.view ∙ (looked_geometry c.place-place.result c.pieces_over-first.result.0 h.words (g.S.Seated.view_of c.args.seat.now) ∙ c.requires.pair.1)),
+    )
+
+pub returns-clause-pair : goal.returns-clause-pair
+returns-clause-pair g c =
+    let h = c.loop-piece.invariant in
+    (h.table ∙ c.requires.pair.0, ap (λ (z : View). z.geometry) h.view ∙ (looked_geometry c.place-place.result c.pieces_over-first.result.0 h.words (g.S.Seated.view_of c.args.seat.now) ∙ c.requires.pair.1))

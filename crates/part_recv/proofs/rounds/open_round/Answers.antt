@@ -77,4 +77,16 @@ returns-clause-side g c =
     let some : 1 ≤ take_words s.view.geometry = let a = c.geometry.ensures.limits.recv_parts.0 in let b = ap (λ (z : Shape). z.recv_parts) c.requires.pair.1 in omega arith in
     let recv = ap (λ (z : RecvHeld). z.view.recv) c.takes.invariant ∙ opened_recv c.args.round c.takes.word s.view some in
     let same = ap (λ (z : RecvHeld). z.view.geometry) c.takes.invariant ∙ opened_geometry c.args.round c.takes.word (take_words s.view.geometry) s.view in
-    ((ap (λ (z : RecvSide). z.takes) recv ∙ (all ∙ sym (ap take_words same)), ap (λ (z : RecvSide). z.released) recv), ap (λ (z : RecvSide). z.watchers) recv)
+    (ap (λ (z : RecvSide). z.takes) recv ∙ (all ∙ sym (ap take_words same)), ap (λ (z : RecvSide). z.released) recv)
+
+pub returns-clause-round : goal.returns-clause-round
+returns-clause-round g c =
+    let s : RecvHeld = c.args.seat.now in
+    let some : 1 ≤ take_words s.view.geometry = let a = c.geometry.ensures.limits.recv_parts.0 in let b = ap (λ (z : Shape). z.recv_parts) c.requires.pair.1 in omega arith in
+    ap (λ (z : RecvHeld). z.view.recv.round) c.takes.invariant ∙ ap (λ (z : RecvSide). z.round) (opened_recv c.args.round c.takes.word s.view some)
+
+pub returns-clause-watchers : goal.returns-clause-watchers
+returns-clause-watchers g c =
+    let s : RecvHeld = c.args.seat.now in
+    let some : 1 ≤ take_words s.view.geometry = let a = c.geometry.ensures.limits.recv_parts.0 in let b = ap (λ (z : Shape). z.recv_parts) c.requires.pair.1 in omega arith in
+    ap (λ (z : RecvHeld). z.view.recv.watchers) c.takes.invariant ∙ ap (λ (z : RecvSide). z.watchers) (opened_recv c.args.round c.takes.word s.view some)

@@ -9,8 +9,8 @@ use Rattle.part_recv.specs.Receiving.{End, is_active}
 use Rattle.part_recv.proofs.Ending.{side_flag, side_active, free_flags}
 use Rattle.part_recv.proofs.recv_end.RecvEnd.refuse_take.Goals as goal
 
-pub returns-then-is_taken : goal.returns-then-is_taken
-returns-then-is_taken g c =
+pub returns-then-is_taken-clause-answer : goal.returns-then-is_taken-clause-answer
+returns-then-is_taken-clause-answer g c =
     let s : RecvHeld = c.self.inside.seat in
     let on : is_active c.args.self.now.view ≡ true = ap (λ (z : End). is_active z.view) (sym c.self.view_is) ∙ (side_flag c.self.inside.active s.view c.self.invariant.side ∙ c.if-not-self.false) in
     let same = ap (λ (z : Shape). z.recv_parts) (c.geometry.ensures.value ∙ sym c.requires.pair.1) in
@@ -22,8 +22,8 @@ returns-then-is_taken g c =
       refl,
     )
 
-pub returns-in_default : goal.returns-in_default
-returns-in_default g c =
+pub returns-in_default-clause-answer : goal.returns-in_default-clause-answer
+returns-in_default-clause-answer g c =
     let s : RecvHeld = c.self.inside.seat in
     let on : is_active c.args.self.now.view ≡ true = ap (λ (z : End). is_active z.view) (sym c.self.view_is) ∙ (side_flag c.self.inside.active s.view c.self.invariant.side ∙ c.if-not-self.false) in
     let same = ap (λ (z : Shape). z.recv_parts) (c.geometry.ensures.value ∙ sym c.requires.pair.1) in
@@ -31,10 +31,10 @@ returns-in_default g c =
     let active : IsRecvActive s.view.geometry s.view.recv = side_active c.self.inside.active s.view c.self.invariant.side (side_flag c.self.inside.active s.view c.self.invariant.side ∙ c.if-not-self.false) in
     let l = c.is_taken.ensures in
     let free = free_flags s.view (length s.slots) c.args.q s.lanes l.0 c.lanes.ensures.kept active (ap (λ (z : List Lane). get_elem? z c.args.q) (sym c.lanes.ensures.value) ∙ l.1) (l.2 ∙ c.if-is_taken.false) in
-    ((on, part), subst (λ (z : End). HasFlags false false c.args.q z.lanes) c.self.view_is free, c.in_default.ensures)
+    ((on, part), subst (λ (z : End). HasFlags false false c.args.q z.lanes) c.self.view_is free, c.in_default.ensures.found)
 
-pub returns : goal.returns
-returns g c =
+pub returns-clause-answer : goal.returns-clause-answer
+returns-clause-answer g c =
     let s : RecvHeld = c.self.inside.seat in
     let on : is_active c.args.self.now.view ≡ true = ap (λ (z : End). is_active z.view) (sym c.self.view_is) ∙ (side_flag c.self.inside.active s.view c.self.invariant.side ∙ c.if-not-self.false) in
     let same = ap (λ (z : Shape). z.recv_parts) (c.geometry.ensures.value ∙ sym c.requires.pair.1) in
@@ -42,4 +42,4 @@ returns g c =
     let active : IsRecvActive s.view.geometry s.view.recv = side_active c.self.inside.active s.view c.self.invariant.side (side_flag c.self.inside.active s.view c.self.invariant.side ∙ c.if-not-self.false) in
     let l = c.is_taken.ensures in
     let free = free_flags s.view (length s.slots) c.args.q s.lanes l.0 c.lanes.ensures.kept active (ap (λ (z : List Lane). get_elem? z c.args.q) (sym c.lanes.ensures.value) ∙ l.1) (l.2 ∙ c.if-is_taken.false) in
-    ((on, part), subst (λ (z : End). HasFlags false false c.args.q z.lanes) c.self.view_is free, c.in-Some.ensures)
+    ((on, part), subst (λ (z : End). HasFlags false false c.args.q z.lanes) c.self.view_is free, c.in-Some.ensures.found)

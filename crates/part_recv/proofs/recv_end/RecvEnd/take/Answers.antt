@@ -15,19 +15,19 @@ use Rattle.part_recv.proofs.recv_end.RecvEnd.take.Goals as goal
 pub take_part-shelf-requires-clause-pair : goal.take_part-shelf-requires-clause-pair
 take_part-shelf-requires-clause-pair g c =
     let s : RecvHeld = c.self.inside.seat in let o : End = c.args.self.now in let q = c.args.q in
-    let looks : LookedAll q o (end_of s) = subst (λ (z : End). LookedAll q o z) (sym c.self.view_is) c.in_ok-refuse_take.ensures.2 in
+    let looks : LookedAll q o (end_of s) = subst (λ (z : End). LookedAll q o z) (sym c.self.view_is) c.in_ok-refuse_take.ensures.answer.2 in
     (ap (λ (z : End). z.table) looks.end ∙ c.requires.pair.0, same_geometry q s o looks ∙ c.requires.pair.1)
 
 pub take_part-shelf-requires-clause-allowed : goal.take_part-shelf-requires-clause-allowed
 take_part-shelf-requires-clause-allowed g c =
     let s : RecvHeld = c.self.inside.seat in let o : End = c.args.self.now in let q = c.args.q in
-    let looks : LookedAll q o (end_of s) = subst (λ (z : End). LookedAll q o z) (sym c.self.view_is) c.in_ok-refuse_take.ensures.2 in
+    let looks : LookedAll q o (end_of s) = subst (λ (z : End). LookedAll q o z) (sym c.self.view_is) c.in_ok-refuse_take.ensures.answer.2 in
     let kept = c.lanes-lanes.ensures.kept in
-    let look = c.in_ok-refuse_take.ensures.0 in
+    let look = c.in_ok-refuse_take.ensures.answer.0 in
     let v : IsShape o.view.geometry = subst IsShape (sym c.requires.pair.1) c.geometry-geometry.ensures.limits in
     let on : is_active s.view ≡ true = ap (λ (z : RecvSide). z.released == 0) (same_recv q s o looks) ∙ look.0 in
     let active : IsRecvActive s.view.geometry s.view.recv = side_active c.self.inside.active s.view c.self.invariant.side on in
-    let free : HasFlags false false q s.lanes = subst (λ (z : List Lane). HasFlags false false q z) (sym (same_lanes q s o looks)) c.in_ok-refuse_take.ensures.1 in
+    let free : HasFlags false false q s.lanes = subst (λ (z : List Lane). HasFlags false false q z) (sym (same_lanes q s o looks)) c.in_ok-refuse_take.ensures.answer.1 in
     let place : o.view.recv.round % o.view.geometry.depth < o.view.geometry.depth = let d = v.depth.0 in omega arith in
     let may : MayMake s.view (TakePart q []) = (
       c.lanes-lanes.ensures.number,
@@ -41,35 +41,35 @@ take_part-shelf-requires-clause-allowed g c =
 pub of-requires : goal.of-requires
 of-requires g c =
     let s : RecvHeld = c.self.inside.seat in let o : End = c.args.self.now in let q = c.args.q in
-    let looks : LookedAll q o (end_of s) = subst (λ (z : End). LookedAll q o z) (sym c.self.view_is) c.in_ok-refuse_take.ensures.2 in
+    let looks : LookedAll q o (end_of s) = subst (λ (z : End). LookedAll q o z) (sym c.self.view_is) c.in_ok-refuse_take.ensures.answer.2 in
     let shape : o.view.geometry ≡ c.geometry-geometry.result = c.requires.pair.1 ∙ sym c.geometry-geometry.ensures.value in
     let round : o.view.recv.round ≡ c.round-round.result = sym (same_round q s o looks) ∙ sym c.round-round.ensures in
     subst (λ (z : Shape × ℕ). IsArrival z.0 z.1 q c.take_part-shelf.result) (λ i. (shape i, round i))
-    (arrival_is q s o looks _ c.take_part-shelf.result c.take_part-shelf.new.seat c.take_part-shelf.ensures c.in_ok-refuse_take.ensures.0.1)
+    (arrival_is q s o looks _ c.take_part-shelf.result c.take_part-shelf.new.seat c.take_part-shelf.ensures c.in_ok-refuse_take.ensures.answer.0.1)
 
 pub invariant_of-self : goal.invariant_of-self
 invariant_of-self g c =
     let s : RecvHeld = c.self.inside.seat in let o : End = c.args.self.now in let q = c.args.q in
-    let looks : LookedAll q o (end_of s) = subst (λ (z : End). LookedAll q o z) (sym c.self.view_is) c.in_ok-refuse_take.ensures.2 in
-    let free : HasFlags false false q s.lanes = subst (λ (z : List Lane). HasFlags false false q z) (sym (same_lanes q s o looks)) c.in_ok-refuse_take.ensures.1 in
+    let looks : LookedAll q o (end_of s) = subst (λ (z : End). LookedAll q o z) (sym c.self.view_is) c.in_ok-refuse_take.ensures.answer.2 in
+    let free : HasFlags false false q s.lanes = subst (λ (z : List Lane). HasFlags false false q z) (sym (same_lanes q s o looks)) c.in_ok-refuse_take.ensures.answer.1 in
     end_takes (g.C.Content.may c.args.pair.now.key.tag) c.self.inside.active c.self.inside.watchers q c.take_part-shelf.result s c.take_part-shelf.new.seat c.lanes-lanes.ensures.kept free c.take_part-shelf.ensures c.self.invariant
 
 pub returns-clause-answer : goal.returns-clause-answer
 returns-clause-answer g c =
     let s : RecvHeld = c.self.inside.seat in let o : End = c.args.self.now in let q = c.args.q in
-    let looks : LookedAll q o (end_of s) = subst (λ (z : End). LookedAll q o z) (sym c.self.view_is) c.in_ok-refuse_take.ensures.2 in
+    let looks : LookedAll q o (end_of s) = subst (λ (z : End). LookedAll q o z) (sym c.self.view_is) c.in_ok-refuse_take.ensures.answer.2 in
     let shape : c.geometry-geometry.result ≡ o.view.geometry = c.geometry-geometry.ensures.value ∙ sym c.requires.pair.1 in
     let round : c.round-round.result ≡ o.view.recv.round = c.round-round.ensures ∙ same_round q s o looks in
     let is : c.of.result ≡ arrived q s o looks c.take_part-shelf.result = c.of.ensures ∙ (λ i. record { geometry = shape i; round = round i; partition = q; bytes = bytes_in c.take_part-shelf.result.bufs }) in
-    taken_says q s o looks (g.C.Content.may c.args.pair.now.key.tag) c.take_part-shelf.result c.take_part-shelf.new.seat c.take_part-shelf.ensures c.in_ok-refuse_take.ensures.0 c.in_ok-refuse_take.ensures.1 c.of.result is
+    taken_says q s o looks (g.C.Content.may c.args.pair.now.key.tag) c.take_part-shelf.result c.take_part-shelf.new.seat c.take_part-shelf.ensures c.in_ok-refuse_take.ensures.answer.0 c.in_ok-refuse_take.ensures.answer.1 c.of.result is
 
 pub returns-clause-out : goal.returns-clause-out
 returns-clause-out g c =
     let s : RecvHeld = c.self.inside.seat in let o : End = c.args.self.now in let q = c.args.q in
-    let looks : LookedAll q o (end_of s) = subst (λ (z : End). LookedAll q o z) (sym c.self.view_is) c.in_ok-refuse_take.ensures.2 in
+    let looks : LookedAll q o (end_of s) = subst (λ (z : End). LookedAll q o z) (sym c.self.view_is) c.in_ok-refuse_take.ensures.answer.2 in
     let shape : c.geometry-geometry.result ≡ o.view.geometry = c.geometry-geometry.ensures.value ∙ sym c.requires.pair.1 in
     let round : c.round-round.result ≡ o.view.recv.round = c.round-round.ensures ∙ same_round q s o looks in
     let is : c.of.result ≡ arrived q s o looks c.take_part-shelf.result = c.of.ensures ∙ (λ i. record { geometry = shape i; round = round i; partition = q; bytes = bytes_in c.take_part-shelf.result.bufs }) in
     let inside : q < length s.lanes =
-    (let parts = c.lanes-lanes.ensures.kept.parts in let part = c.in_ok-refuse_take.ensures.0.1 in let same = ap (λ (z : Shape). z.recv_parts) (same_geometry q s o looks) in omega arith) in
+    (let parts = c.lanes-lanes.ensures.kept.parts in let part = c.in_ok-refuse_take.ensures.answer.0.1 in let same = ap (λ (z : Shape). z.recv_parts) (same_geometry q s o looks) in omega arith) in
     taken_out q s o looks (g.C.Content.may c.args.pair.now.key.tag) c.take_part-shelf.result c.take_part-shelf.new.seat c.take_part-shelf.ensures inside c.of.result is
