@@ -1,4 +1,5 @@
--- The bits of a number as a set.
+-- The bits of a number as a set: `&` tells whether one is within another, and `|` makes the union. All goes bit by bit,
+-- by what the digit of each is.
 use Rattle.std.proofs.Common.{◌≡◌, ℕ, ◌*◌, ◌^◌, ap, ◌∙◌, arith, inl, inr}
 use Rattle.std.specs.Int.{IsBitSet, bit_at}
 use Rattle.std.specs.Prelude.{bit_and, bit_or}
@@ -7,6 +8,7 @@ use Rattle.std.proofs.lemmas.Nat.{pow_pos}
 use Rattle.std.proofs.lemmas.Nat.Bits.{and_pow, bit_at-lt, bit_at_and, bit_at_or, same_from_bits}
 use Rattle.gate_word.specs.Order.{AreIn}
 
+-- the digit of a bit that is set is 1
 pub set_one : (n i : ℕ) → IsBitSet n i → bit_at n i ≡ 1
 set_one n i set =
     let small = bit_at-lt n i in
@@ -17,12 +19,14 @@ set_one n i set =
           absurd (set (and_pow n i ∙ ap (λ x. x * 2 ^ i) none ∙ (omega arith)))
     ]
 
+-- and a bit whose digit is 1 is set
 pub one_set : (n i : ℕ) → bit_at n i ≡ 1 → IsBitSet n i
 one_set n i one none =
     let some = pow_pos i in
     let e = and_pow n i ∙ ap (λ x. x * 2 ^ i) one in
     absurd (omega arith)
 
+-- where `m & n` is m, each bit of m is set in n
 pub and-in : (m n : ℕ) → bit_and m n ≡ m → AreIn m n
 and-in m n e i set =
     let one = set_one m i set in
@@ -31,6 +35,7 @@ and-in m n e i set =
     let small = bit_at-lt n i in
     one_set n i (omega arith)
 
+-- and where each bit of m is set in n, `m & n` is m
 pub in-and : (m n : ℕ) → AreIn m n → bit_and m n ≡ m
 in-and m n are = same_from_bits _ _ (λ i.
     let both = bit_at_and m n i in
@@ -42,6 +47,7 @@ in-and m n are = same_from_bits _ _ (λ i.
           omega arith
     ])
 
+-- numbers with the same bits are equal
 pub in-same : (m n : ℕ) → AreIn m n → AreIn n m → m ≡ n
 in-same m n there back = same_from_bits _ _ (λ i.
     let small = bit_at-lt m i in
@@ -58,6 +64,7 @@ in-same m n there back = same_from_bits _ _ (λ i.
           ]
     ])
 
+-- each bit of m is set in `m | n`
 pub or-first : (m n : ℕ) → AreIn m (bit_or m n)
 or-first m n i set =
     let one = set_one m i set in
@@ -65,6 +72,7 @@ or-first m n i set =
     let small = bit_at-lt (bit_or m n) i in
     one_set _ i (omega arith)
 
+-- and so is each bit of n
 pub or-second : (m n : ℕ) → AreIn n (bit_or m n)
 or-second m n i set =
     let one = set_one n i set in
@@ -72,6 +80,7 @@ or-second m n i set =
     let small = bit_at-lt (bit_or m n) i in
     one_set _ i (omega arith)
 
+-- a number with the bits of m and those of n has those of `m | n`
 pub or-least : (m n d : ℕ) → AreIn m d → AreIn n d → AreIn (bit_or m n) d
 or-least m n d first second i set =
     let one = set_one (bit_or m n) i set in

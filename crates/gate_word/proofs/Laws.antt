@@ -1,4 +1,5 @@
--- The order of words is a partial order, and the join is the least word above both.
+-- The order of words is a partial order, and the join is the least word above both. Rounds decide first; in one round,
+-- bits and the shut mark are compared as sets are.
 use Rattle.std.proofs.Common.{◌≡◌, ℕ, ◌^◌, ◌<◌, Bool, true, false, ◌||◌, refl, sym, subst, ◌∙◌, arith, inl, inr}
 use Rattle.std.specs.Prelude.{IsTrue, bit_or}
 use Rattle.std.proofs.lemmas.Bool.{cases_order, lt-ltb, le-ltb, or_cases, or_left, or_right}
@@ -11,6 +12,7 @@ use Rattle.gate_word.proofs.BitSets.{in-same, or-first, or-second, or-least}
 reflexive : (a : ℕ) → IsLater a a
 reflexive a = inr (record { round = refl; bits = λ i set. set; shut = λ s. s })
 
+-- two truths of which each gives the other are equal
 same_bool : (s t : Bool) → (IsTrue s → IsTrue t) → (IsTrue t → IsTrue s) → s ≡ t
 same_bool true t there back = sym (there refl)
 same_bool false true there back = back refl
@@ -36,23 +38,27 @@ transitive a b c (inr first) (inr next) = inr (record {
   shut = λ s. next.shut (first.shut s);
 })
 
+-- the order of words is reflexive, antisymmetric and transitive
 pub order : IsPartialOrder
 order = record { reflexive = reflexive; antisymmetric = antisymmetric; transitive = transitive }
 
--- the join, by the order of the rounds
+-- the join is the second word where its round is greater
 pub join_second : (a b : ℕ) → round_in a < round_in b → join_of a b ≡ b
 unfolding join_of
 join_second a b less = rw (lt-ltb _ _ less) refl
 
+-- and the first word where that has the greater round
 pub join_first : (a b : ℕ) → round_in b < round_in a → join_of a b ≡ a
 unfolding join_of
 join_first a b more = rw (le-ltb (round_in a) (round_in b) (omega arith), lt-ltb (round_in b) (round_in a) more) refl
 
+-- in one round the join has the bits of both, and is shut where one is
 pub join_both : (a b : ℕ) → round_in a ≡ round_in b
     → join_of a b ≡ word_of (round_in a) (shut_in a || shut_in b) (bit_or (bits_in a) (bits_in b))
 unfolding join_of
 join_both a b same = rw (le-ltb (round_in a) (round_in b) (omega arith), le-ltb (round_in b) (round_in a) (omega arith)) refl
 
+-- the bits of two words together are below 2 ^ 32
 both_small : (a b : ℕ) → bit_or (bits_in a) (bits_in b) < 2 ^ 32
 both_small a b = or_lt 32 _ _ (bits-small a) (bits-small b)
 
@@ -84,6 +90,7 @@ least_both a b c same has = record {
   least = λ d first second. below_all a b c d same has first second;
 }
 
+-- the join is the least word above both
 pub least : (a b : ℕ) → IsLeastAbove a b (join_of a b)
 least a b = elim (cases_order (round_in a) (round_in b)) [
   | inl same ↦ rw (join_both a b same) (least_both a b _ same (made _ _ _ (both_small a b)))
@@ -93,6 +100,7 @@ least a b = elim (cases_order (round_in a) (round_in b)) [
   ]
 ]
 
+-- the join of two words is a word
 word : (a b : ℕ) → IsWord a → IsWord b → IsWord (join_of a b)
 word a b first second = elim (cases_order (round_in a) (round_in b)) [
   | inl same ↦ rw (join_both a b same) (fits _ _ _ (limits a first).0 (both_small a b))
@@ -102,5 +110,6 @@ word a b first second = elim (cases_order (round_in a) (round_in b)) [
   ]
 ]
 
+-- the join of two words is a word, and the least above both
 pub joins : IsJoin
 joins = record { word = word; least = least }
