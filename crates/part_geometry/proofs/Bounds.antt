@@ -17,17 +17,20 @@ next_bound g x = min ((x / g.send_bytes + 1) * g.send_bytes) ((x / g.recv_bytes 
 abbrev pub bounds_from : Shape → ℕ → List ℕ
 bounds_from g x = filter (is_bound g) (range_with_len x (send_total g + 1 - x))
 
+-- the next bound is behind the place
 pub next_bound-above : (g : Shape) (v : IsShape g) (x : ℕ) → x < next_bound g x
 next_bound-above g v x =
     let s = next_above x g.send_bytes (omega (arith, v.send_bytes.0)) in
     let r = next_above x g.recv_bytes (omega (arith, v.recv_bytes.0)) in
     omega arith
 
+-- from a place before the end of the message, the next bound is not behind that end
 pub next_bound-within : (g : Shape) (v : IsShape g) (x : ℕ) → x < send_total g → next_bound g x ≤ send_total g
 next_bound-within g v x below =
     let s = next_within x g.send_bytes g.send_parts (omega (arith, v.send_bytes.0)) below in
     omega arith
 
+-- no bound lies between a place and its next bound
 pub next_bound-none : (g : Shape) (v : IsShape g) (x z : ℕ) → x < z → z < next_bound g x → is_bound g z ≡ false
 next_bound-none g v x z above below =
     or_from _ _ (none_between x z g.send_bytes (omega (arith, v.send_bytes.0)) above (omega arith))
@@ -36,6 +39,7 @@ next_bound-none g v x z above below =
 min_cases : (a b : ℕ) → (min a b ≡ a) ⊎ (min a b ≡ b)
 min_cases a b = elim (cases_lt a b) [ inl h ↦ inl (omega arith) | inr h ↦ inr (omega arith) ]
 
+-- the next bound is a bound
 pub next_bound-is_bound : (g : Shape) (x : ℕ) → is_bound g (next_bound g x) ≡ true
 next_bound-is_bound g x =
     let s = (x / g.send_bytes + 1) * g.send_bytes in
@@ -45,6 +49,7 @@ next_bound-is_bound g x =
       | inr h ↦ rw h (or_right _ _ (is_multiple (x / g.recv_bytes + 1) g.recv_bytes))
     ]
 
+-- the bounds from a bound before the end on are that bound, and then those from the next one on
 pub bounds_from-next : (g : Shape) (v : IsShape g) (x : ℕ) → is_bound g x ≡ true → x < send_total g
     → bounds_from g x ≡ x ∷ bounds_from g (next_bound g x)
 bounds_from-next g v x here below =
@@ -57,6 +62,7 @@ bounds_from-next g v x here below =
     let skipped = filter-skip (is_bound g) (y - (x + 1)) (x + 1) (send_total g + 1 - y) (λ z low high. next_bound-none g v x z (omega arith) (omega arith)) in
     rw (length_is, filter-keep (is_bound g) x (send_total g - x) here, parts, skipped, lands) refl
 
+-- from the end of the message on there is no bound but the end
 pub bounds_from-last : (g : Shape) → is_bound g (send_total g) ≡ true → bounds_from g (send_total g) ≡ send_total g ∷ []
 bounds_from-last g here =
     let length_is : send_total g + 1 - send_total g ≡ 1 = omega arith in
@@ -74,26 +80,28 @@ pub record IsAt (g : Shape) (c : ℕ) : Type 0 where
   pub within : start g c ≤ send_total g
   pub bound : is_bound g (start g c) ≡ true
 
--- from what is left of the bounds follows the rest
+-- if x is a bound and what is left of the list behind its first c is the bounds from x on, then cell c starts at x
 at_from : (g : Shape) (c x : ℕ) → drop c (bounds g) ≡ bounds_from g x → x ≤ send_total g → is_bound g x ≡ true → (start g c ≡ x) × IsAt g c
 unfolding start
 at_from g c x left within bound =
     let e : get_or (bounds g) c 0 ≡ x = sym (get_or-drop c (bounds g) 0 0 ∙ ap (λ n. get_or (bounds g) n 0) (let z : c + 0 ≡ c = omega arith in z)) ∙ ap (λ xs. get_or xs 0 0) left ∙ bounds_from-head g x bound within in
     (e, record { left = rw e left; within = rw e within; bound = rw e bound })
 
+-- the first cell starts at place 0, with all bounds left
 first_at : (g : Shape) → (start g 0 ≡ 0) × IsAt g 0
 unfolding bounds
 first_at g =
     let e : send_total g + 1 - 0 ≡ send_total g + 1 = omega arith in
     at_from g 0 0 (rw e refl) (omega arith) (or_left _ _ (eq-eqb _ _ (zero-mod g.send_bytes)))
 
+-- the next cell starts at the next bound, with the bounds from there on left
 next_at : (g : Shape) (v : IsShape g) (c : ℕ) → IsAt g c → start g c < send_total g → (start g (c + 1) ≡ next_bound g (start g c)) × IsAt g (c + 1)
 next_at g v c at below =
     let e : drop (c + 1) (bounds g) ≡ bounds_from g (next_bound g (start g c)) =
     sym (drop-drop 1 c (bounds g)) ∙ ap (drop 1) (at.left ∙ bounds_from-next g v (start g c) at.bound below) in
     at_from g (c + 1) (next_bound g (start g c)) e (next_bound-within g v _ below) (next_bound-is_bound g _)
 
--- the last bound is the total
+-- a cell starts before the end of the message, since two bounds at least are left there, and at the end only one is
 before_last : (g : Shape) (c : ℕ) → c < cells g → IsAt g c → start g c < send_total g
 unfolding cells
 before_last g c inside at =
@@ -107,24 +115,30 @@ before_last g c inside at =
           absurd (omega arith)
     ]
 
+-- each cell, and the number behind the last, starts at a bound, with the bounds from there on left
 pub is_at : (g : Shape) (v : IsShape g) (c : ℕ) → c ≤ cells g → IsAt g c
 is_at g v zero inside = (first_at g).1
 is_at g v (suc c) inside =
     let before = is_at g v c (omega arith) in
     rw add-one at (next_at g v c before (before_last g c (omega arith) before)).1
 
+-- the first cell starts at place 0
 pub start-zero : (g : Shape) → start g 0 ≡ 0
 start-zero g = (first_at g).0
 
+-- each cell starts before the end of the message
 pub start-below : (g : Shape) (v : IsShape g) (c : ℕ) → c < cells g → start g c < send_total g
 start-below g v c inside = before_last g c inside (is_at g v c (omega arith))
 
+-- no cell, nor the number behind the last, starts behind the end of the message
 pub start-within : (g : Shape) (v : IsShape g) (c : ℕ) → c ≤ cells g → start g c ≤ send_total g
 start-within g v c inside = (is_at g v c inside).within
 
+-- the next cell starts at the next bound
 pub start-next : (g : Shape) (v : IsShape g) (c : ℕ) → c < cells g → start g (c + 1) ≡ next_bound g (start g c)
 start-next g v c inside = (next_at g v c (is_at g v c (omega arith)) (start-below g v c inside)).0
 
+-- each cell starts before the next one does
 pub start-rises : (g : Shape) (v : IsShape g) (c : ℕ) → c < cells g → start g c < start g (c + 1)
 start-rises g v c inside = rw (start-next g v c inside) (next_bound-above g v (start g c))
 
@@ -133,6 +147,7 @@ some_left g x here within =
     let length_is : send_total g + 1 - x ≡ suc (send_total g - x) = omega arith in
     rw (length_is, filter-keep (is_bound g) x (send_total g - x) here) (omega arith)
 
+-- behind the last cell the start is the end of the message
 pub start-last : (g : Shape) (v : IsShape g) → start g (cells g) ≡ send_total g
 unfolding cells
 start-last g v =
@@ -147,6 +162,7 @@ start-last g v =
       | inr h ↦ let w = at.within in omega arith
     ]
 
+-- a message has at least one cell
 pub cells-pos : (g : Shape) (v : IsShape g) → 0 < cells g
 cells-pos g v =
     let last = start-last g v in let first = start-zero g in
@@ -159,6 +175,7 @@ cells-pos g v =
           let e : start g (cells g) ≡ start g 0 = ap (start g) none in absurd (omega arith)
     ]
 
+-- the start of a cell k further on is at least k bytes further on
 pub start-mono : (g : Shape) (v : IsShape g) (c k : ℕ) → c + k ≤ cells g → start g c + k ≤ start g (c + k)
 start-mono g v c zero inside = rw (add-zero, add-zero) (omega arith)
 start-mono g v c (suc k) inside =
@@ -167,6 +184,7 @@ start-mono g v c (suc k) inside =
     let e : c + suc k ≡ c + k + 1 = omega arith in
     rw e (omega arith)
 
+-- a message has no more cells than bytes
 pub cells-le : (g : Shape) (v : IsShape g) → cells g ≤ send_total g
 cells-le g v =
     let all = start-mono g v 0 (cells g) (omega arith) in

@@ -1,4 +1,5 @@
--- The list of bounds is ascending, and has the bounds and nothing else.
+-- The list of bounds is ascending, and has the bounds and nothing else. A bound is a multiple of one of the two sizes,
+-- up to the total: so a filter that keeps the places with no remainder by one of them finds exactly these.
 use Rattle.std.proofs.Common.{◌≡◌, ℕ, zero, suc, ◌+◌, ◌*◌, ◌/◌, ◌%◌, ◌<◌, ◌≤◌, Bool, true, false, ◌==◌, cond, [], ◌∷◌, filter, Contains, sym, ◌∙◌, arith, inl, inr}
 use Rattle.std.specs.List.{range_with_len}
 use Rattle.std.proofs.Math.Nat.{mul-mod_left}
@@ -36,6 +37,7 @@ multiple_of x s n pos within none =
       whole,
     )
 
+-- a place up to the total with no remainder by one of the sizes is a bound
 bound_from : (g : Shape) (v : IsShape g) (x : ℕ) → x ≤ send_total g → is_bound g x ≡ true → IsBound g x
 bound_from g v x within here =
     elim (or_cases _ _ here) [
@@ -43,6 +45,7 @@ bound_from g v x within here =
       | inr e ↦ inr (multiple_of x g.recv_bytes g.recv_parts (omega (arith, v.recv_bytes.0)) (omega (arith, v.same)) (eqb-true _ _ e))
     ]
 
+-- and a bound is such a place
 bound_to : (g : Shape) (v : IsShape g) (x : ℕ) → IsBound g x → (is_bound g x ≡ true) × (x ≤ send_total g)
 bound_to g v x (inl (i, low, e)) =
     let multiple : (x % g.send_bytes == 0) ≡ true = rw e (eq-eqb _ _ (mul-mod_left i g.send_bytes)) in
@@ -51,6 +54,7 @@ bound_to g v x (inr (j, low, e)) =
     let multiple : (x % g.recv_bytes == 0) ≡ true = rw e (eq-eqb _ _ (mul-mod_left j g.recv_bytes)) in
     (or_right _ _ multiple, rw (e, v.same) (mul-le j g.recv_bytes g.recv_parts g.recv_bytes low (omega arith)))
 
+-- the list of bounds is ascending, and has the bounds and nothing else
 pub are_bounds : (g : Shape) → IsShape g → AreBounds g (bounds g)
 unfolding bounds cells start
 are_bounds g v = record {

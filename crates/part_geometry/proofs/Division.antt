@@ -1,4 +1,5 @@
--- The pieces are the one division of the cells by the rule.
+-- The pieces are the one division of the cells by the rule. Both halves go over the cells, one by one, with what is
+-- known of the run that is open: none of its cells closes it so far.
 use Rattle.std.proofs.Common.{◌≡◌, ℕ, zero, suc, ◌+◌, ◌<◌, ◌≤◌, true, false, cond, List, [], ◌∷◌, refl, ◌∙◌, arith, inl, inr}
 use Rattle.std.proofs.lemmas.Bool.{cases_order, both_ways, or_right, eq-eqb}
 use Rattle.part_geometry.specs.Shape.{Shape}
@@ -16,6 +17,7 @@ pub record IsOpen (g : Shape) (f c n : ℕ) : Type 0 where
 pub last_closes : (g : Shape) (f c : ℕ) → c + 1 ≡ cells g → closes g f c ≡ true
 last_closes g f c last = or_right _ _ (eq-eqb _ _ last)
 
+-- behind cell c, the last of its run, a new run is open that begins with the next cell
 pub after_close : (g : Shape) (f c n : ℕ) → IsOpen g f c (suc n) → IsOpen g (c + 1) (c + 1) n
 after_close g f c n h = record {
   left = (let e = h.left in omega arith);
@@ -24,6 +26,7 @@ after_close g f c n h = record {
   whole = λ e. refl;
 }
 
+-- behind a cell that doesn't close the run, the run is still open
 pub after_open : (g : Shape) (f c n : ℕ) → IsOpen g f c (suc n) → closes g f c ≡ false → IsOpen g f (c + 1) n
 after_open g f c n h unclosed = record {
   left = (let e = h.left in omega arith);
@@ -35,6 +38,7 @@ after_open g f c n h unclosed = record {
   whole = λ e. absurd (both_ways _ unclosed (last_closes g f c (let l = h.left in omega arith)));
 }
 
+-- the runs that are made from there on divide the cells from the first of the open run on
 pub divides_from : (g : Shape) (n f c : ℕ) → IsOpen g f c n → IsDivisionFrom g f (runs_from g f c n)
 unfolding runs_from
 divides_from g zero f c h = h.whole refl ∙ (let e = h.left in omega arith)
@@ -53,7 +57,7 @@ divides_from g (suc n) f c h =
       | false ↦ λ e. divides_from g n f (c + 1) (after_open g f c n h e)
     ] refl
 
--- any division is that one
+-- any division of these cells is that one
 pub only_from : (g : Shape) (n f c : ℕ) (runs : List Run) → IsOpen g f c n → IsDivisionFrom g f runs → runs ≡ runs_from g f c n
 unfolding runs_from
 only_from g zero f c [] h d = refl
@@ -85,6 +89,7 @@ all_open g = record {
   whole = λ e. refl;
 }
 
+-- the list of pieces divides the cells by the rule, and is the only list that does
 pub the_division : (g : Shape) → IsTheDivision g
 unfolding pieces_of
 the_division g = record {

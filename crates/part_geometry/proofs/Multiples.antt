@@ -1,4 +1,5 @@
--- The multiples of a number: the next one after a place, and that none lies between.
+-- The multiples of a number: the next one after a place, and that none lies between. With this a filter of a range by a
+-- remainder goes from one multiple to the next.
 use Rattle.std.proofs.Common.{◌≡◌, ℕ, zero, suc, zero-add, add-zero, ◌+◌, ◌*◌, ◌/◌, ◌%◌, ◌<◌, ◌≤◌, Bool, true, false, ◌==◌, ◌∷◌, filter, refl, arith}
 use Rattle.std.specs.List.{range_with_len}
 use Rattle.std.proofs.Math.Nat.{mul-le-mul_left, div-lt_iff_lt-mul, mul-mod_left, mul-le-mul_right, suc-add}
@@ -21,6 +22,7 @@ next_within x s n pos below =
     let quotient : x / s < n = (div-lt_iff_lt-mul pos).1 below in
     mul-le-mul_right s (omega arith)
 
+-- a multiple of s has no remainder by s
 pub is_multiple : (q s : ℕ) → ((q * s) % s == 0) ≡ true
 is_multiple q s = eq-eqb _ _ (mul-mod_left q s)
 

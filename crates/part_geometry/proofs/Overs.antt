@@ -9,7 +9,7 @@ use Rattle.part_geometry.proofs.Parts.{recv-mono}
 use Rattle.part_geometry.proofs.PieceFacts.{piece-ordered}
 use Rattle.part_geometry.proofs.Rows.{row-hits, recv-row}
 
--- a piece over q has a cell of q, and the piece of a cell of q is over q
+-- a piece over receive partition q has a cell of q
 pub over-cell : (g : Shape) (v : IsShape g) (q i : ℕ) → i < pieces g → is_over g q i ≡ true → (d : ℕ) × (first_cell g i ≤ d) × (d ≤ last_cell g i) × (recv_of g d ≡ q)
 over-cell g v q i inside over =
     let h = and_parts (nat_le (recv_of g (first_cell g i)) q) (nat_le q (recv_of g (last_cell g i))) over in
@@ -20,6 +20,7 @@ over-cell g v q i inside over =
     let d = row-hits (recv_of g) (cells g) g.recv_parts (recv-row g v) (first_cell g i) (last_cell g i - first_cell g i) q (let l = o.1 in omega arith) low (omega arith) in
     (d.0, d.1, (let u = d.2 in omega arith), d.3)
 
+-- a piece that has a cell of q is over q
 pub cell-over : (g : Shape) (v : IsShape g) (q i d : ℕ) → i < pieces g → first_cell g i ≤ d → d ≤ last_cell g i → recv_of g d ≡ q → is_over g q i ≡ true
 cell-over g v q i d inside low high is =
     let o = piece-ordered g i inside in
@@ -27,6 +28,7 @@ cell-over g v q i d inside low high is =
     let b = recv-mono g v d (last_cell g i) high (let l = o.1 in omega arith) in
     and_from (nat_le (recv_of g (first_cell g i)) q) (nat_le q (recv_of g (last_cell g i))) (le-leb _ _ (omega arith)) (le-leb _ _ (omega arith))
 
+-- a piece is over a receive partition exactly where they touch
 pub overs : AreOver
 overs g q i v inside = (
   (λ over. over-cell g v q i inside over),

@@ -1,4 +1,5 @@
--- What follows from the rule of the pieces: their first and last cells, and the piece of a cell.
+-- What follows from the rule of the pieces: their first and last cells, and the piece of a cell. Each fact is first
+-- proved of any division, run by run, and then of the list of pieces, which is one.
 use Rattle.std.proofs.Common.{◌≡◌, ℕ, zero, suc, ◌+◌, ◌-◌, ◌*◌, ◌<◌, ◌≤◌, true, false, cond, nat_lt, List, [], ◌∷◌, length, get_or, count_by, refl, ap, sym, subst, add-one, arith, inl, inr}
 use Rattle.std.proofs.lemmas.Bool.{cases_lt, cases_order, or_parts, leb-false, lt-ltb, le-ltb}
 use Rattle.std.proofs.lemmas.List.Sums.{sum_by-cons}
@@ -68,6 +69,7 @@ ended g f (run ∷ runs) d (suc i) x inside low high =
     let later = run_at g (run.1 + 1) runs d.1 i (omega arith) in
     rw (sum_by-cons, lt-ltb run.1 x (let h = later.1 in omega arith), ended g (run.1 + 1) runs d.1 i x (omega arith) low high) (omega arith)
 
+-- the list of pieces is a division of all cells
 divided : (g : Shape) → IsDivision g (pieces_of g)
 divided g = (the_division g).divides
 
@@ -76,13 +78,16 @@ pub piece-run : (g : Shape) (i : ℕ) → i < pieces g → IsRun g (first_cell g
 unfolding pieces first_cell last_cell at
 piece-run g i inside = (run_at g 0 (pieces_of g) (divided g) i inside).0
 
+-- a piece's first cell is not behind its last, which is a cell of the message
 pub piece-ordered : (g : Shape) (i : ℕ) → i < pieces g → (first_cell g i ≤ last_cell g i) × (last_cell g i < cells g)
 piece-ordered g i inside = let r = piece-run g i inside in (r.ordered, r.inside)
 
+-- each piece begins behind the last cell of the one before
 pub piece-next : (g : Shape) (i : ℕ) → i + 1 < pieces g → first_cell g (i + 1) ≡ last_cell g i + 1
 unfolding pieces first_cell last_cell at
 piece-next g i inside = run_after g 0 (pieces_of g) (divided g) i inside
 
+-- the last piece has the last cell
 pub piece-last : (g : Shape) (i : ℕ) → i + 1 ≡ pieces g → last_cell g i + 1 ≡ cells g
 unfolding pieces last_cell at
 piece-last g i is = run_last g 0 (pieces_of g) (divided g) i is
@@ -111,12 +116,13 @@ pieces-apart g i (suc k) inside =
     let n = piece-next g (i + suc k) (omega arith) in
     let e : i + suc k + 1 ≡ i + suc (suc k) = omega arith in rw (← e) (omega arith)
 
+-- each piece ends before any later one begins
 pub pieces-order : (g : Shape) (i j : ℕ) → i < j → j < pieces g → last_cell g i < first_cell g j
 pieces-order g i j below inside =
     let e : i + suc (j - i - 1) ≡ j = omega arith in
     rw e at (pieces-apart g i (j - i - 1) (omega arith))
 
--- the cells before a piece are those of earlier pieces, and those up to its last are of no later piece
+-- the cells before a piece are those of earlier pieces
 pub before-piece : (g : Shape) (i c : ℕ) → i < pieces g → c < cells g → (c < first_cell g i → piece_of g c < i) × (piece_of g c < i → c < first_cell g i)
 before-piece g i c inside cell =
     let h = piece_of-holds g c cell in (
@@ -130,6 +136,7 @@ before-piece g i c inside cell =
       λ less. let o = pieces-order g (piece_of g c) i less inside in let u = h.high in omega arith,
     )
 
+-- the cells up to a piece's last are those of no later piece
 pub upto-piece : (g : Shape) (i c : ℕ) → i < pieces g → c < cells g → (c ≤ last_cell g i → piece_of g c ≤ i) × (piece_of g c ≤ i → c ≤ last_cell g i)
 upto-piece g i c inside cell =
     let h = piece_of-holds g c cell in (
@@ -146,13 +153,14 @@ upto-piece g i c inside cell =
       ],
     )
 
--- a piece touches from 1 to 32 send partitions
+-- a piece touches at least one send partition
 pub need_count-pos : (g : Shape) (v : IsShape g) (i : ℕ) → i < pieces g → 1 ≤ need_count g i
 unfolding first_part last_part
 need_count-pos g v i inside =
     let o = piece-ordered g i inside in
     let m = send-mono g v (first_cell g i) (last_cell g i) o.0 (let h = o.1 in omega arith) in omega arith
 
+-- from a cell to the next the send partition goes up by at most 1
 pub send-step : (g : Shape) (v : IsShape g) (c : ℕ) → c < cells g → send_of g (c + 1) ≤ send_of g c + 1
 send-step g v c inside =
     elim (cases_lt (end g c) ((send_of g c + 1) * g.send_bytes)) [
@@ -160,6 +168,7 @@ send-step g v c inside =
       | inr above ↦ let e = send-next-more g v c (let h = send_end-le g v c inside in omega arith) in omega arith
     ]
 
+-- a piece touches at most 32 send partitions, since it is closed at the first cell where it touches that many
 pub need_count-le : (g : Shape) (v : IsShape g) (i : ℕ) → i < pieces g → need_count g i ≤ 32
 unfolding first_part last_part
 need_count-le g v i inside =
@@ -207,7 +216,7 @@ Touches-range g v i p inside =
           (h.0, h.1, (let u = h.2 in omega arith), h.3)),
     )
 
--- there are no more pieces than cells
+-- n cells make at most n runs
 length-runs_from : (g : Shape) (n f c : ℕ) → length (runs_from g f c n) ≤ n
 unfolding runs_from
 length-runs_from g zero f c = omega arith
@@ -217,6 +226,7 @@ length-runs_from g (suc n) f c =
       | false ↦ let h = length-runs_from g n f (c + 1) in omega arith
     ]
 
+-- there are no more pieces than cells
 pub pieces-le : (g : Shape) → pieces g ≤ cells g
 unfolding pieces pieces_of
 pieces-le g = length-runs_from g (cells g) 0 0

@@ -39,6 +39,7 @@ cell-le g v (suc c) inside =
       | inr e ↦ let m = recv-next-more g v c e in omega arith
     ])
 
+-- a message has a cell, and fewer cells than both sides together have partitions
 pub cells-few : (g : Shape) → IsShape g → (1 ≤ cells g) × (cells g + 1 ≤ g.send_parts + g.recv_parts)
 cells-few g v =
     let some = cells-pos g v in
@@ -47,7 +48,7 @@ cells-few g v =
     let r = recv-below g v (cells g - 1) (omega arith) in
     (omega arith, omega arith)
 
--- where a walk gives a cell, it is the one that it stands before, and else none is left
+-- where a walk gives a cell, it is the one that it stands before
 next-some : (w : Walked) (cell : Cell) → next_cell w ≡ Some cell → (w.place < cells w.shape) × (cell ≡ cell_at w.shape w.place)
 next-some w cell given =
     elim (cases_lt w.place (cells w.shape)) [
@@ -57,6 +58,7 @@ next-some w cell given =
       | inr h ↦ let e : next_cell w ≡ None = cond-false _ _ _ (le-ltb w.place (cells w.shape) h) in absurd (cc)
     ]
 
+-- where it gives none, none is left
 pub next-none : (w : Walked) → next_cell w ≡ None → cells w.shape ≤ w.place
 next-none w given =
     elim (cases_lt w.place (cells w.shape)) [
@@ -150,38 +152,42 @@ need-bit g v i b inside =
       (λ touches. o.1 (let h = (t.0 touches).1 in omega arith)),
     )
 
+-- 32 ones without the lowest 32 - k are the mask of a piece that touches k partitions: so the code makes it
 pub need-ones : (g : Shape) (i k : ℕ) → k ≤ 32 → k ≡ need_count g i → (2 ^ 32 - 1) / 2 ^ (32 - k) ≡ need g i
 unfolding need
 need-ones g i k few is =
     let e : 32 - (32 - k) ≡ need_count g i = omega arith in
     ones_shr 32 (32 - k) (omega arith) ∙ ap (λ n. 2 ^ n - 1) e
 
--- a cell starts in the partitions that hold it
+-- a cell starts in its send partition
 pub send-starts : (g : Shape) (v : IsShape g) (c : ℕ)
     → (send_of g c * g.send_bytes ≤ start g c) × (start g c < (send_of g c + 1) * g.send_bytes)
 unfolding send_of
 send-starts g v c = let s = v.send_bytes.0 in (omega arith, omega arith)
 
+-- and in its receive partition
 pub recv-starts : (g : Shape) (v : IsShape g) (c : ℕ)
     → (recv_of g c * g.recv_bytes ≤ start g c) × (start g c < (recv_of g c + 1) * g.recv_bytes)
 unfolding recv_of
 recv-starts g v c = let r = v.recv_bytes.0 in (omega arith, omega arith)
 
--- the partitions of a piece's first and last cell
+-- the send partition of the first cell of a piece's run is the piece's first
 pub first_part-is : (g : Shape) (i p : ℕ) (run : Run) → p ≡ send_of g run.0 → run ≡ (first_cell g i, last_cell g i) → p ≡ first_part g i
 unfolding first_part
 first_part-is g i p run of is = of ∙ ap (λ r. send_of g r.0) is
 
+-- and that of the last cell is its last
 pub last_part-is : (g : Shape) (i p : ℕ) (run : Run) → p ≡ send_of g run.1 → run ≡ (first_cell g i, last_cell g i) → p ≡ last_part g i
 unfolding last_part
 last_part-is g i p run of is = of ∙ ap (λ r. send_of g r.1) is
 
--- a piece touches its first partition, and none before it
+-- a piece touches its first partition
 pub first_part-touched : (g : Shape) (v : IsShape g) (i : ℕ) → i < pieces g → Touches g i (first_part g i)
 first_part-touched g v i inside =
     let some = need_count-pos g v i inside in
     (Touches-range g v i (first_part g i) inside).1 (omega arith) (omega arith)
 
+-- a piece's last partition is one of the send partitions
 pub last_part-below : (g : Shape) (v : IsShape g) (i : ℕ) → i < pieces g → last_part g i < g.send_parts
 unfolding last_part
 last_part-below g v i inside = send-below g v (last_cell g i) (piece-ordered g i inside).1

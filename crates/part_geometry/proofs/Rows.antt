@@ -25,11 +25,13 @@ row-mono f n count r c (suc k) inside =
     let here = r.rises (c + k) (omega arith) in
     let e : f (c + k + 1) ≡ f (c + suc k) = ap f (let z : c + k + 1 ≡ c + suc k = omega arith in z) in omega arith
 
+-- a later cell has no smaller number
 pub row-le : (f : ℕ → ℕ) (n count : ℕ) → IsRow f n count → (c d : ℕ) → c ≤ d → d < n → f c ≤ f d
 row-le f n count r c d below inside =
     let h = row-mono f n count r c (d - c) (omega arith) in
     let e : f (c + (d - c)) ≡ f d = ap f (let z : c + (d - c) ≡ d = omega arith in z) in omega arith
 
+-- each number in a row is below the count
 pub row-below : (f : ℕ → ℕ) (n count : ℕ) → IsRow f n count → (c : ℕ) → c < n → f c < count
 row-below f n count r c inside =
     let some = r.some in
@@ -65,6 +67,7 @@ recv-step g v c inside =
       | inr above ↦ let e = recv-next-more g v c (let h = recv_end-le g v c inside in omega arith) in omega arith
     ]
 
+-- the cells' send partitions form a row
 pub send-row : (g : Shape) → IsShape g → IsRow (send_of g) (cells g) g.send_parts
 send-row g v = record {
   some = cells-pos g v;
@@ -78,6 +81,7 @@ send-row g v = record {
       let l = send-last g v in let b = send-below g v (cells g - 1) (omega arith) in omega arith;
 }
 
+-- the cells' receive partitions form a row
 pub recv-row : (g : Shape) → IsShape g → IsRow (recv_of g) (cells g) g.recv_parts
 recv-row g v = record {
   some = cells-pos g v;
@@ -108,6 +112,7 @@ piece-step g c inside =
           ]
     ]
 
+-- the cells' pieces form a row
 pub piece-row : (g : Shape) → IsShape g → IsRow (piece_of g) (cells g) (pieces g)
 piece-row g v = record {
   some = cells-pos g v;

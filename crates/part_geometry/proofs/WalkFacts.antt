@@ -1,4 +1,5 @@
--- What a walk knows of the cell that it stands before.
+-- What a walk knows of the cell that it stands before: where both sides' partitions end, and which run is open. Each
+-- step keeps this, as each side goes to its next partition exactly where the cell ends with its partition.
 use Rattle.std.proofs.Common.{◌≡◌, ◌≢◌, ℕ, zero, suc, add-zero, ◌+◌, ◌-◌, ◌*◌, ◌<◌, ◌≤◌, min, true, false, nat_le, if◌then◌else◌, ◌==◌, Some, None, List, ◌∷◌, length, get_or, drop, refl, ap, sym, ◌∙◌, arith, inl, inr}
 use Rattle.std.proofs.lemmas.Bool.{le-ltb, lt-ltb, le-leb, lt-leb, cases_Bool, cases_lt, cases_eq, eq-eqb, ne_eqb, cond-true, cond-false}
 use Rattle.std.proofs.lemmas.Nat.{mul-le}
@@ -15,11 +16,12 @@ use Rattle.part_geometry.proofs.Parts.{send_end-le, recv_end-le, end-min, send-n
 use Rattle.part_geometry.proofs.PieceFacts.{piece_of-inside, piece_of-holds, pieces-le}
 use Rattle.part_geometry.proofs.Division.{last_closes}
 
--- the runs from a cell on, where that cell closes the open run or not
+-- where a cell closes the open run, the runs from it on are that run and then those from the next cell on
 runs-close : (g : Shape) (n f c : ℕ) → closes g f c ≡ true → runs_from g f c (suc n) ≡ (f, c) ∷ runs_from g (c + 1) (c + 1) n
 unfolding runs_from
 runs-close g n f c closed = cond-true _ _ _ closed
 
+-- where it doesn't, they are those from the next cell on, with the run still open
 runs-open : (g : Shape) (n f c : ℕ) → closes g f c ≡ false → runs_from g f c (suc n) ≡ runs_from g f (c + 1) n
 unfolding runs_from
 runs-open g n f c unclosed = cond-false _ _ _ unclosed
@@ -52,7 +54,7 @@ piece-before g p b inside =
     let high : p.place ≤ (get_or (pieces_of g) p.piece (0, 0)).1 = rw there h.2 in
     sym (piece_of-inside g p.piece p.place (omega arith) low high)
 
--- the walk is at the end exactly behind the last cell
+-- a walk that stands at the end of the message is behind the last cell
 pub at_total : (g : Shape) (p : Position) → IsBefore g p → p.start ≡ send_total g → p.place ≡ cells g
 at_total g p b total =
     elim (cases_lt p.place (cells g)) [
@@ -60,6 +62,7 @@ at_total g p b total =
       | inr h ↦ let i = b.inside in omega arith
     ]
 
+-- a walk that stands elsewhere is before a cell
 pub before_total : (g : Shape) (p : Position) → IsBefore g p → p.start ≢ send_total g → p.place < cells g
 before_total g p b other =
     elim (cases_lt p.place (cells g)) [
@@ -83,6 +86,8 @@ side_after place side = if place == side.end
     then record { part = side.part + 1; end = side.end + side.bytes; bytes = side.bytes }
     else side
 
+-- where the next cell's partition is one more if the cell ends with its partition, and else the same, a side goes on to
+-- it
 side_next : (at next bytes place : ℕ) (side : SidePart) → IsSide at bytes side
     → (place ≡ (at + 1) * bytes → next ≡ at + 1) → (place ≢ (at + 1) * bytes → next ≡ at) → IsSide next bytes (side_after place side)
 side_next at next bytes place side is more same =
@@ -95,10 +100,12 @@ side_next at next bytes place side is more same =
           rw (cond-false _ _ _ (ne_eqb place side.end other), e) is
     ]
 
+-- behind the cell, the send side stands at the send partition of the next one
 pub send_next : (g : Shape) (p : Position) → IsBefore g p → p.place < cells g → IsSide (send_of g (p.place + 1)) g.send_bytes (side_after (end g p.place) p.send)
 send_next g p b inside = side_next _ _ _ _ _ b.sends (send-next-more g b.shape p.place)
     (λ other. send-next-same g b.shape p.place inside (let h = send_end-le g b.shape p.place inside in omega arith))
 
+-- and the receive side at its receive partition
 pub recv_next : (g : Shape) (p : Position) → IsBefore g p → p.place < cells g → IsSide (recv_of g (p.place + 1)) g.recv_bytes (side_after (end g p.place) p.recv)
 recv_next g p b inside = side_next _ _ _ _ _ b.recvs (recv-next-more g b.shape p.place)
     (λ other. recv-next-same g b.shape p.place inside (let h = recv_end-le g b.shape p.place inside in omega arith))
@@ -118,6 +125,7 @@ opened_of p = record p { piece = p.piece + 1; first = p.place; first_start = p.s
 runs_left : (g : Shape) (p : Position) → p.place < cells g → cells g - p.place ≡ suc (cells g - (p.place + 1))
 runs_left g p inside = omega arith
 
+-- where the cell leaves the run open, the position behind it is right with the same run
 pub before_open : (g : Shape) (p : Position) → IsBefore g p → p.place < cells g → closes g p.first p.place ≡ false → IsBefore g (next_of g p)
 before_open g p b inside unclosed = record {
   shape = b.shape;
@@ -131,6 +139,7 @@ before_open g p b inside unclosed = record {
   opened_send = b.opened_send;
 }
 
+-- where it closes the run, the position behind it is right with a run that begins there
 pub before_closed : (g : Shape) (p : Position) → IsBefore g p → p.place < cells g → closes g p.first p.place ≡ true → IsBefore g (opened_of (next_of g p))
 before_closed g p b inside closed = record {
   shape = b.shape;
@@ -144,7 +153,7 @@ before_closed g p b inside closed = record {
   opened_send = (send_next g p b inside).stands;
 }
 
--- the first position
+-- a position with all at 0 and each side in its first partition is before the first cell
 pub first_before : (g : Shape) (p : Position) → IsShape g → p.place ≡ 0 → p.start ≡ 0 → IsSide 0 g.send_bytes p.send → IsSide 0 g.recv_bytes p.recv
     → p.piece ≡ 0 → p.first ≡ 0 → p.first_start ≡ 0 → p.first_send ≡ 0 → IsBefore g p
 unfolding pieces_of
@@ -175,6 +184,7 @@ pub record IsSmall (g : Shape) (p : Position) : Type 0 where
   pub first_start : p.first_start ≤ p.start
   pub first_send : p.first_send ≤ p.send.part
 
+-- before a cell, the numbers of a position keep these limits, so that no sum wraps
 pub small : (g : Shape) (p : Position) → IsBefore g p → p.place < cells g → IsSmall g p
 small g p b inside =
     let v = b.shape in let l = v.length in let same = v.same in
@@ -220,30 +230,36 @@ total-closes g v c inside =
       | inr other ↦ ne_eqb _ _ (let h = start-below g v (c + 1) (omega arith) in λ z. absurd (omega arith)) ∙ sym (ne_eqb _ _ other)
     ]
 
+-- a side made at place 0 stands in its first partition
 pub first_side : (bytes n : ℕ) (side : SidePart) → side ≡ record { part = 0; end = n; bytes = n } → n ≡ bytes → IsSide 0 bytes side
 first_side bytes n side is same = rw (is, same) (record { stands = refl; size = refl; ends = omega arith })
 
--- what `advance` answers behind the last cell, and before it
+-- a walk behind the last cell gives none
 pub no_next : (g : Shape) (c : ℕ) → c ≡ cells g → next_cell record { shape = g; place = c } ≡ None
 no_next g c last = cond-false _ _ _ (le-ltb c (cells g) (omega arith))
 
+-- and stays where it is
 pub stays : (g : Shape) (c : ℕ) → c ≡ cells g → passed record { shape = g; place = c } ≡ record { shape = g; place = c }
 stays g c last = rw (le-ltb c (cells g) (omega arith)) refl
 
+-- a walk before a cell gives that cell
 pub some_next : (g : Shape) (c : ℕ) → c < cells g → next_cell record { shape = g; place = c } ≡ Some (cell_at g c)
 some_next g c inside = cond-true _ _ _ (lt-ltb c (cells g) inside)
 
+-- and goes on behind it
 pub goes : (g : Shape) (c : ℕ) → c < cells g → passed record { shape = g; place = c } ≡ record { shape = g; place = c + 1 }
 goes g c inside = rw (lt-ltb c (cells g) inside) refl
 
--- the three ways in which a run is closed
+-- a run of `grain` bytes is closed
 pub closes-long : (g : Shape) (f c : ℕ) → g.grain ≤ end g c - start g f → closes g f c ≡ true
 closes-long g f c long = rw (le-leb _ _ long) refl
 
+-- a run that touches 32 send partitions is closed
 pub closes-wide : (g : Shape) (f c : ℕ) → 32 ≤ touched g f c → closes g f c ≡ true
 closes-wide g f c wide = let e = le-leb 32 (touched g f c) wide in
     elim (cases_Bool (nat_le g.grain (end g c - start g f))) [ inl y ↦ rw y refl | inr n ↦ rw (n, e) refl ]
 
+-- a shorter and narrower run is closed exactly where its last cell ends at the end of the message
 pub closes-total : (g : Shape) (v : IsShape g) (f c : ℕ) → c < cells g → end g c - start g f < g.grain → touched g f c < 32
     → (end g c == send_total g) ≡ closes g f c
 closes-total g v f c inside short narrow = rw (lt-leb _ _ short, lt-leb _ _ narrow) (total-closes g v c inside)

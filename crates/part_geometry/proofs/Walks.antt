@@ -1,4 +1,5 @@
--- What one step of a walk over the cells tells.
+-- What one step of a walk over the cells tells, for a caller that sees only what it answers: by the definition of the
+-- next cell, in the two cases of one left and none left.
 use Rattle.std.proofs.Common.{◌≡◌, ◌+◌, ◌<◌, ◌≤◌, nat_lt, Some, None, List, [], ◌∷◌, ◌++◌, map, refl, ap, ◌∙◌, arith, inl, inr}
 use Rattle.std.specs.List.{range_with_len}
 use Rattle.std.proofs.lemmas.Bool.{cases_Bool, ltb-true, ltb-false, cond-true, cond-false}

@@ -27,5 +27,8 @@ pub const MAX_GRAIN: u32 = 16_777_216;
 /// The most rounds in flight.
 pub const MAX_DEPTH: u32 = 4;
 
+/// The most ranks that exchange messages with one another.
+pub const MAX_RANKS: u32 = 64;
+
 /// The last round that a side can start: rounds are numbered from 1 on.
 pub const LAST_ROUND: u32 = 2_147_483_647;

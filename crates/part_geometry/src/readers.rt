@@ -14,6 +14,7 @@ impl Geometry {
         ensures stands { result ≡ record { shape = self.now; place = 0 } }
         ensures limits { IsShape self.now }
     {
+        // The geometry's limits, for the proof.
         let _total = self.total();
         CellWalk::new(*self)
     }
@@ -65,7 +66,8 @@ impl Geometry {
         ensures inside { result < self.now.send_parts }
 
         // The bytes of partition p are those from p * send_bytes up to (p + 1) * send_bytes.
-        ensures starts { (result * self.now.send_bytes ≤ start self.now c) × (start self.now c < (result + 1) * self.now.send_bytes) }
+        ensures starts { (result * self.now.send_bytes ≤ start self.now c)
+            × (start self.now c < (result + 1) * self.now.send_bytes) }
         ensures ends { end self.now c ≤ (result + 1) * self.now.send_bytes }
     {
         self.whole_cell(c).send
@@ -78,7 +80,8 @@ impl Geometry {
         ensures inside { result < self.now.recv_parts }
 
         // The bytes of partition q are those from q * recv_bytes up to (q + 1) * recv_bytes.
-        ensures starts { (result * self.now.recv_bytes ≤ start self.now c) × (start self.now c < (result + 1) * self.now.recv_bytes) }
+        ensures starts { (result * self.now.recv_bytes ≤ start self.now c)
+            × (start self.now c < (result + 1) * self.now.recv_bytes) }
         ensures ends { end self.now c ≤ (result + 1) * self.now.recv_bytes }
     {
         self.whole_cell(c).recv

@@ -86,6 +86,7 @@ impl Position {
         ensures before { IsBefore geometry result }
         ensures place { result.place ≡ 0 }
     {
+        // The geometry's limits, for the proof.
         let _total = geometry.total();
         Position {
             place: 0,
