@@ -25,7 +25,7 @@ pub fn later(a: u64, b: u64) -> bool
 
 /// The least word that is later than both, or one of them: the one of the greater round or, in one round, the word
 /// with the bits of both, shut where one is.
-#[tactic(auto, using(crate::proofs::Laws::join_second, crate::proofs::Laws::join_first, crate::proofs::Laws::join_both, crate::proofs::Laws::least))]
+#[tactic(auto, using(crate::proofs::Laws::join_second, crate::proofs::Laws::join_first, crate::proofs::Laws::least))]
 pub fn join(a: u64, b: u64) -> u64
     ensures value { result ≡ join_of a b }
     ensures least { IsLeastAbove a b result }

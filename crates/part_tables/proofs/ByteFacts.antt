@@ -1,4 +1,5 @@
--- The bytes of a message by place: those of a cell lie in one send partition, and rows of places join.
+-- The bytes of a message by place: those of a cell lie in one send partition, so they can be cut out of its bytes, and
+-- rows of places join.
 use Rattle.std.proofs.Common.{◌≡◌, ℕ, zero, suc, zero-add, add-zero, ◌+◌, ◌-◌, ◌*◌, ◌/◌, ◌%◌, ◌<◌, ◌≤◌, List, ◌∷◌, ◌++◌, length, get_or, drop, map, refl, ap, sym, ◌∙◌, arith}
 use Rattle.std.specs.List.{range_with_len}
 use Rattle.std.proofs.Math.Nat.{div-eq_of_lt-le, suc-add}
@@ -11,13 +12,14 @@ use Rattle.part_geometry.proofs.Parts.{send_end-le}
 use Rattle.part_geometry.proofs.ReaderFacts.{send-starts}
 use Rattle.part_tables.specs.Bytes.{bytes_between, byte_at, cell_bytes, cut}
 
--- two rows of places, one behind the other
+-- the values of f at m places and at the n behind them, put together, are those at m + n places
 map-range-append : (f : ℕ → ℕ) (m n a : ℕ) → map f (range_with_len a m) ++ map f (range_with_len (a + m) n) ≡ map f (range_with_len a (m + n))
 map-range-append f zero n a = rw (add-zero, zero-add) refl
 map-range-append f (suc m) n a =
     let e : a + suc m ≡ a + 1 + m = omega arith in
     rw (suc-add, e) (ap (λ xs. f a ∷ xs) (map-range-append f m n (a + 1)))
 
+-- the bytes from a to b and those from b to c, put together, are the bytes from a to c
 pub bytes_between-joined : (f : ℕ → ℕ) (a b c : ℕ) → a ≤ b → b ≤ c → bytes_between f a b ++ bytes_between f b c ≡ bytes_between f a c
 bytes_between-joined f a b c low high =
     let there : a + (b - a) ≡ b = omega arith in
@@ -25,6 +27,7 @@ bytes_between-joined f a b c low high =
     ap (λ x. map f (range_with_len a (b - a)) ++ map f (range_with_len x (c - b))) (sym there)
     ∙ map-range-append f (b - a) (c - b) a ∙ ap (λ n. map f (range_with_len a n)) size
 
+-- from a place to itself there are no bytes, which is said by a range of length 0
 pub bytes_between-nothing : (f : ℕ → ℕ) (a b : ℕ) → a ≡ b → bytes_between f a b ≡ map f (range_with_len a 0)
 bytes_between-nothing f a b same = ap (λ n. map f (range_with_len a n)) (let z : b - a ≡ 0 = omega arith in z)
 
@@ -51,6 +54,7 @@ pub record IsInside (g : Shape) (c : ℕ) : Type 0 where
   pub high : end g c ≤ (send_of g c + 1) * g.send_bytes
   pub next : (send_of g c + 1) * g.send_bytes ≡ send_of g c * g.send_bytes + g.send_bytes
 
+-- the places of each cell lie in its send partition
 pub cell-inside : (g : Shape) → IsShape g → (c : ℕ) → c < cells g → IsInside g c
 cell-inside g v c inside = record {
   low = (send-starts g v c).0;
@@ -59,6 +63,7 @@ cell-inside g v c inside = record {
   next = omega arith;
 }
 
+-- a cell's cut of its send partition's bytes is as long as the cell
 pub length-cut_lem : (g : Shape) → IsShape g → (c : ℕ) (b : List ℕ) → c < cells g → length b ≡ g.send_bytes → length (cut g c b) ≡ end g c - start g c
 length-cut_lem g v c b inside size =
     let h = cell-inside g v c inside in
@@ -67,6 +72,7 @@ length-cut_lem g v c b inside size =
     length-take-le (end g c - base - (start g c - base)) (drop (start g c - base) b) (let d = length-drop (start g c - base) b in omega arith)
     ∙ (let z : end g c - base - (start g c - base) ≡ end g c - start g c = omega arith in z)
 
+-- where b is what the message has in the cell's send partition, the cut of b is what it has in the cell
 pub cut-is_lem : (g : Shape) → IsShape g → (marked : ℕ → List ℕ) (c : ℕ) (b : List ℕ) → c < cells g → marked (send_of g c) ≡ b → length b ≡ g.send_bytes
     → cut g c b ≡ cell_bytes g marked c
 cut-is_lem g v marked c b inside is size =
@@ -86,6 +92,7 @@ cut-is_lem g v marked c b inside is size =
     ∙ sym byte
     ∙ sym (get_or-map-range_with_len (byte_at g marked) (start g c) n k (start g c + k) 0 (omega arith) (omega arith)))
 
+-- messages with the same bytes in a cell's send partition have the same bytes in the cell
 pub cell_bytes-agree_lem : (g : Shape) → IsShape g → (marked others : ℕ → List ℕ) (c : ℕ) → c < cells g → marked (send_of g c) ≡ others (send_of g c)
     → cell_bytes g marked c ≡ cell_bytes g others c
 cell_bytes-agree_lem g v marked others c inside same =

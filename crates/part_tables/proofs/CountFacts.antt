@@ -7,13 +7,14 @@ use Rattle.std.proofs.lemmas.List.Sums.{sum_by-cons}
 use Rattle.part_geometry.proofs.Rows.{IsRow, row-le, row-below, row-all}
 use Rattle.part_tables.specs.Parts.{cells_before}
 
+-- where no cell of a range lies before a part, the count is 0
 count-none : (f : ℕ → ℕ) (v n a : ℕ) → ((c : ℕ) → a ≤ c → c < a + n → v ≤ f c) → count_by (λ c. nat_lt (f c) v) (range_with_len a n) ≡ 0
 count-none f v zero a behind = refl
 count-none f v (suc n) a behind =
     let rest = count-none f v n (a + 1) (λ c low high. behind c (omega arith) (omega arith)) in
     rw (sum_by-cons, le-ltb (f a) v (behind a (omega arith) (omega arith)), rest) refl
 
--- where the first k cells lie before a part and the others don't, k do
+-- where the first k cells of a range lie before a part and the others don't, the count is k
 count-first : (f : ℕ → ℕ) (v n a k : ℕ) → k ≤ n → ((c : ℕ) → a ≤ c → c < a + k → f c < v) → ((c : ℕ) → a + k ≤ c → c < a + n → v ≤ f c)
     → count_by (λ c. nat_lt (f c) v) (range_with_len a n) ≡ k
 count-first f v n a zero few before behind = count-none f v n a (λ c low high. behind c (omega arith) high)
@@ -28,11 +29,12 @@ pub record IsFront (f : ℕ → ℕ) (n v k : ℕ) : Type 0 where
   pub before : (c : ℕ) → c < k → f c < v
   pub behind : (c : ℕ) → k ≤ c → c < n → v ≤ f c
 
+-- then k is the number of cells before the part
 pub cells_before-is : (f : ℕ → ℕ) (n v k : ℕ) → IsFront f n v k → cells_before f n v ≡ k
 cells_before-is f n v k front =
     count-first f v n 0 k front.few (λ c low high. front.before c (omega arith)) (λ c low high. front.behind c (omega arith) (omega arith))
 
--- a row has such a k
+-- in a row, the cells before a part are the first k, for some k
 some_front : (f : ℕ → ℕ) (n count : ℕ) → IsRow f n count → (v m : ℕ) → m ≤ n → (k : ℕ) × IsFront f m v k
 some_front f n count row v zero few = (0, record { few = omega arith; before = λ c h. absurd (omega arith); behind = λ c low high. absurd (omega arith) })
 some_front f n count row v (suc m) few =
@@ -60,11 +62,13 @@ some_front f n count row v (suc m) few =
           )
     ]
 
+-- and that k is their number
 pub is_front : (f : ℕ → ℕ) (n count : ℕ) → IsRow f n count → (v : ℕ) → IsFront f n v (cells_before f n v)
 is_front f n count row v =
     let h = some_front f n count row v n (omega arith) in
     subst (IsFront f n v) (sym (cells_before-is f n v h.0 h.1)) h.1
 
+-- in a row, the cells of a part are those from as many as lie before it up to as many as lie before the next part
 pub in_part : (f : ℕ → ℕ) (n count : ℕ) → IsRow f n count → (p c : ℕ) → c < n
     → (f c ≡ p) ↔ ((cells_before f n p ≤ c) × (c < cells_before f n (p + 1)))
 in_part f n count row p c inside =
@@ -77,16 +81,20 @@ in_part f n count row p c inside =
       (λ both. let low = here.behind c both.0 inside in let high = next.before c both.1 in omega arith),
     )
 
+-- no cell lies before part 0
 pub before-none : (f : ℕ → ℕ) (n : ℕ) → cells_before f n 0 ≡ 0
 before-none f n = cells_before-is f n 0 0 (record { few = omega arith; before = λ c h. absurd (omega arith); behind = λ c low high. omega arith })
 
+-- all cells lie before the number of parts
 pub before-all : (f : ℕ → ℕ) (n count : ℕ) → IsRow f n count → cells_before f n count ≡ n
 before-all f n count row =
     cells_before-is f n count n (record { few = omega arith; before = λ c h. row-below f n count row c h; behind = λ c low high. absurd (omega arith) })
 
+-- no more cells lie before a part than there are
 pub before-le : (f : ℕ → ℕ) (n count : ℕ) → IsRow f n count → (p : ℕ) → cells_before f n p ≤ n
 before-le f n count row p = (is_front f n count row p).few
 
+-- no fewer cells lie before a later part
 pub before-mono : (f : ℕ → ℕ) (n count : ℕ) → IsRow f n count → (p q : ℕ) → p ≤ q → cells_before f n p ≤ cells_before f n q
 before-mono f n count row p q order =
     let low = is_front f n count row p in

@@ -1,4 +1,6 @@
--- Where the cells of a send or a receive partition begin and end, for both sides at once.
+-- Where the cells of a send or a receive partition begin and end, for both sides at once: a cell that is the first of
+-- its partition starts no earlier than the partition, and the cell before it ends no later than the partition before,
+-- which is the same place.
 use Rattle.std.proofs.Common.{◌≡◌, ℕ, ◌+◌, ◌-◌, ◌*◌, ◌<◌, ◌≤◌, ap, sym, ◌∙◌, arith, inl, inr}
 use Rattle.std.proofs.lemmas.Bool.{cases_lt}
 use Rattle.std.proofs.lemmas.Nat.{mul-le}
@@ -18,6 +20,7 @@ pub record IsSide (g : Shape) (part : ℕ → ℕ) (parts bytes : ℕ) : Type 0 
   pub ends : (c : ℕ) → c < cells g → end g c ≤ (part c + 1) * bytes
   pub whole : start g (cells g) ≡ parts * bytes
 
+-- the sender is such a side
 pub send_side : (g : Shape) → IsShape g → IsSide g (send_of g) g.send_parts g.send_bytes
 send_side g v = record {
   row = send-row g v;
@@ -26,6 +29,7 @@ send_side g v = record {
   whole = start-last g v;
 }
 
+-- and the receiver is
 pub recv_side : (g : Shape) → IsShape g → IsSide g (recv_of g) g.recv_parts g.recv_bytes
 recv_side g v = record {
   row = recv-row g v;

@@ -13,6 +13,8 @@ use Rattle.part_tables.proofs.CountFacts.{before-le, before-mono}
 use Rattle.part_tables.proofs.PartFacts.{send_side, recv_side, start-first}
 use Rattle.part_tables.proofs.ByteFacts.{bytes_between-joined, bytes_between-nothing, cut-is_lem, sent_bytes_lem}
 
+-- if each item of a list has the bytes of its cell, the items for the cells from k on have, put together, the bytes
+-- from the start of cell k to the start of the cell behind them
 pub row-bytes : {X : Type 0} (content : X → List ℕ) (g : Shape) → IsShape g → (f : ℕ → ℕ) (low high : ℕ) → high ≤ cells g → (Each : ℕ → List X → Type 0)
     → ((k : ℕ) (x : X) (xs : List X) → low ≤ k → k < high → Each k (x ∷ xs) → (content x ≡ bytes_between f (start g k) (end g k)) × Each (suc k) xs)
     → (k : ℕ) (xs : List X) → low ≤ k → k + length xs ≤ high → Each k xs → flat_map content xs ≡ bytes_between f (start g k) (start g (k + length xs))
@@ -31,6 +33,7 @@ row-bytes {X} content g v f low high within Each step k (x ∷ xs) from upto eac
     ∙ bytes_between-joined f (start g k) (start g (suc k)) (start g (suc k + length xs)) up upper
     ∙ ap (λ n. bytes_between f (start g k) (start g n)) last
 
+-- items for all cells of a receive partition, each with its cell's bytes, have the partition's bytes together
 pub received-row_lem : {X : Type 0} (content : X → List ℕ) (g : Shape) → IsShape g → (marked : ℕ → List ℕ) (q : ℕ) → q < g.recv_parts → (Each : ℕ → List X → Type 0)
     → ((k : ℕ) (x : X) (xs : List X) → first_received g q ≤ k → k < first_received g (q + 1) → Each k (x ∷ xs) → (content x ≡ cell_bytes g marked k) × Each (suc k) xs)
     → (xs : List X) → length xs ≡ first_received g (q + 1) - first_received g q → Each (first_received g q) xs
@@ -50,6 +53,7 @@ received-row_lem content g v marked q inside Each step xs size each =
     ∙ ap (λ n. bytes_between (byte_at g marked) (q * g.recv_bytes) (start g n)) last
     ∙ ap (λ z. bytes_between (byte_at g marked) (q * g.recv_bytes) z) upto
 
+-- items for all cells of a send partition, each with its cell's cut of b, have b together
 pub sent-row_lem : {X : Type 0} (content : X → List ℕ) (g : Shape) → IsShape g → (p : ℕ) (b : List ℕ) → p < g.send_parts → length b ≡ g.send_bytes → (Each : ℕ → List X → Type 0)
     → ((k : ℕ) (x : X) (xs : List X) → first_sent g p ≤ k → k < first_sent g (p + 1) → Each k (x ∷ xs) → (content x ≡ cut g k b) × Each (suc k) xs)
     → (xs : List X) → length xs ≡ first_sent g (p + 1) - first_sent g p → Each (first_sent g p) xs

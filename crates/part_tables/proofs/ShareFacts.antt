@@ -1,4 +1,5 @@
--- Which cells a send partition and a piece share, and which pieces a send partition touches.
+-- Which cells a send partition and a piece share, and which pieces a send partition touches. Both are rows of cells,
+-- one behind the other, so what they share is from the greater of the two firsts to the smaller of the two ends.
 use Rattle.std.proofs.Common.{◌≡◌, ◌↔◌, ℕ, ◌+◌, ◌-◌, ◌<◌, ◌≤◌, ap, arith, inl, inr}
 use Rattle.std.proofs.lemmas.Bool.{cases_lt}
 use Rattle.part_geometry.specs.Shape.{Shape, IsShape}
@@ -9,6 +10,7 @@ use Rattle.part_geometry.proofs.Rows.{row-le, row-hits, send-row, piece-row}
 use Rattle.part_tables.specs.Parts.{cells_before, first_sent, first_shared, after_shared}
 use Rattle.part_tables.proofs.CountFacts.{cells_before-is, in_part, before-le, before-rises}
 
+-- the cells of a piece are those from its first to its last
 pub in_piece_lem : (g : Shape) (i c : ℕ) → c < cells g → i < pieces g → (piece_of g c ≡ i) ↔ ((first_cell g i ≤ c) × (c ≤ last_cell g i))
 in_piece_lem g i c cell inside = (
   (λ is.
@@ -18,7 +20,7 @@ in_piece_lem g i c cell inside = (
   (λ both. piece_of-inside g i c inside both.0 both.1),
 )
 
--- a piece's first cell, and the one behind its last, are those that are found by counting
+-- as many cells lie before a piece as the number of its first cell
 pub piece-first : (g : Shape) (i : ℕ) → i < pieces g → cells_before (piece_of g) (cells g) i ≡ first_cell g i
 piece-first g i inside =
     let o = piece-ordered g i inside in
@@ -31,6 +33,7 @@ piece-first g i inside =
       ];
     }
 
+-- and as many before the next piece as the number of the cell behind its last
 pub piece-after : (g : Shape) (i : ℕ) → i < pieces g → cells_before (piece_of g) (cells g) (i + 1) ≡ last_cell g i + 1
 piece-after g i inside =
     let o = piece-ordered g i inside in
@@ -43,18 +46,22 @@ piece-after g i inside =
       ];
     }
 
+-- the cells of a send partition are those from its first up to and without the first of the next partition
 pub in_sent_lem : (g : Shape) → IsShape g → (p c : ℕ) → c < cells g → (send_of g c ≡ p) ↔ ((first_sent g p ≤ c) × (c < first_sent g (p + 1)))
 unfolding first_sent
 in_sent_lem g v p c inside = in_part (send_of g) (cells g) g.send_parts (send-row g v) p c inside
 
+-- no send partition begins behind the number of cells
 sent-le : (g : Shape) → IsShape g → (p : ℕ) → first_sent g p ≤ cells g
 unfolding first_sent
 sent-le g v p = before-le (send_of g) (cells g) g.send_parts (send-row g v) p
 
+-- each send partition begins before the next one does
 sent-rises : (g : Shape) → IsShape g → (p : ℕ) → p < g.send_parts → first_sent g p < first_sent g (p + 1)
 unfolding first_sent
 sent-rises g v p inside = before-rises (send_of g) (cells g) g.send_parts (send-row g v) p inside
 
+-- the cells of both are those from `first_shared` up to and without `after_shared`
 pub in_shared_lem : (g : Shape) → IsShape g → (p i c : ℕ) → c < cells g → i < pieces g
     → ((send_of g c ≡ p) × (piece_of g c ≡ i)) ↔ ((first_shared g p i ≤ c) × (c < after_shared g p i))
 in_shared_lem g v p i c cell inside =
@@ -68,7 +75,7 @@ in_shared_lem g v p i c cell inside =
           (sent.1 (omega arith, omega arith), piece.1 (omega arith, omega arith))),
     )
 
--- a cell of both
+-- the cell by which they touch is one of these
 pub touch-cell : (g : Shape) → IsShape g → (p i : ℕ) → i < pieces g → (t : Touches g i p)
     → (first_shared g p i ≤ t.0) × (t.0 < after_shared g p i)
 touch-cell g v p i inside t =
@@ -76,6 +83,7 @@ touch-cell g v p i inside t =
     let high = t.2 in
     (in_shared_lem g v p i t.0 (omega arith) inside).0 (t.3, (in_piece_lem g i t.0 (omega arith) inside).1 (t.1, t.2))
 
+-- they touch exactly where there is one
 pub shared-some_lem : (g : Shape) → IsShape g → (p i : ℕ) → i < pieces g
     → Touches g i p ↔ (first_shared g p i < after_shared g p i)
 shared-some_lem g v p i inside = (
@@ -89,6 +97,7 @@ shared-some_lem g v p i inside = (
       (c, piece.0, piece.1, h.0)),
 )
 
+-- the pieces that a partition touches are those from the piece of its first cell to that of its last
 pub touched-range : (g : Shape) → IsShape g → (p i : ℕ) → p < g.send_parts → i < pieces g
     → Touches g i p ↔ ((piece_of g (first_sent g p) ≤ i) × (i ≤ piece_of g (first_sent g (p + 1) - 1)))
 touched-range g v p i part inside =
@@ -127,13 +136,14 @@ shared-next_lem g v p i inside here next =
     let a0 = a.0 in let a1 = a.1 in let b0 = b.0 in let b1 = b.1 in
     let low = here.2 in let high = next.1 in omega arith
 
--- the first piece that it touches begins the row, and the last one ends it
+-- what a partition shares with the first piece that it touches begins with the partition's first cell
 pub shared-first_lem : (g : Shape) → IsShape g → (p : ℕ) → p < g.send_parts → first_shared g p (piece_of g (first_sent g p)) ≡ first_sent g p
 shared-first_lem g v p part =
     let rise = sent-rises g v p part in
     let few = sent-le g v (p + 1) in
     let low = (piece_of-holds g (first_sent g p) (omega arith)).low in omega arith
 
+-- and what it shares with the last one ends with its last cell
 pub shared-last_lem : (g : Shape) → IsShape g → (p : ℕ) → p < g.send_parts → after_shared g p (piece_of g (first_sent g (p + 1) - 1)) ≡ first_sent g (p + 1)
 shared-last_lem g v p part =
     let rise = sent-rises g v p part in

@@ -1,4 +1,5 @@
--- The tables of a geometry, made in passes over its cells, and what they hold at a place.
+-- The tables of a geometry, made in passes over its cells, and what they hold at a place. A pass keeps that the table
+-- is right for the cells so far; a part has its first cell at the cell where its number is that of the parts so far.
 use Rattle.std.proofs.Common.{◌≡◌, ◌≢◌, ℕ, ◌+◌, ◌-◌, ◌<◌, ◌≤◌, List, [], ◌∷◌, ◌++◌, length, get_or, map, refl, ap, sym, ◌∙◌, arith, inl, inr}
 use Rattle.std.specs.List.{range_with_len}
 use Rattle.std.proofs.lemmas.Bool.{cases_lt}
@@ -20,13 +21,15 @@ use Rattle.part_tables.specs.Tables.{IsTable, part_in, part_at, part_count}
 use Rattle.part_tables.proofs.CountFacts.{cells_before-is, before-all}
 use Rattle.part_tables.proofs.ShareFacts.{piece-first, piece-after}
 
--- a table of a function: one more, how many, and each
+-- a table with the next value pushed has one value more
 pub table_more : {X : Type 0} (f : ℕ → X) (i : ℕ) (x : X) (xs ys : List X) → IsTable f i xs → x ≡ f i → ys ≡ xs ++ x ∷ [] → IsTable f (i + 1) ys
 table_more {X} f i x xs ys before is after = rw (after, before, is, map-range_with_len_more f 0 i i (omega arith)) refl
 
+-- a table for 0 to n - 1 has n values
 pub table_len : {X : Type 0} (f : ℕ → X) (n : ℕ) (xs : List X) → IsTable f n xs → length xs ≡ n
 table_len {X} f n xs is = rw is (length-map-range_with_len f 0 n)
 
+-- and at each place the value of that place
 pub table_at : {X : Type 0} (f : ℕ → X) (n c : ℕ) (d : X) (xs : List X) → IsTable f n xs → c < n → get_or xs c d ≡ f c
 table_at {X} f n c d xs is inside = rw is (get_or-map-range_with_len f 0 n c c d inside (omega arith))
 
@@ -36,6 +39,7 @@ pub record SoFar (f : ℕ → ℕ) (n c : ℕ) (firsts : List ℕ) : Type 0 wher
   pub size : 0 < c → length firsts ≡ f (c - 1) + 1
   pub table : IsTable (cells_before f n) (length firsts) firsts
 
+-- before the first cell the table is empty
 pub so_far_none : (f : ℕ → ℕ) (n : ℕ) (firsts : List ℕ) → length firsts ≡ 0 → SoFar f n 0 firsts
 so_far_none f n firsts empty = record {
   none = λ e. empty;
@@ -82,22 +86,25 @@ so_far_same f n count c firsts row inside s other =
           let empty = s.none (omega arith) in absurd (other (omega arith))
     ]
 
+-- the parts of the cells form a row, by whichever side, or by pieces
 pub row_is : (row : Row) (g : Shape) → IsShape g → IsRow (part_at row g) (cells g) (part_count row g)
 row_is Send g v = send-row g v
 row_is Recv g v = recv-row g v
 row_is Piece g v = piece-row g v
 
+-- the part that a cell says is that of its number
 part_in-cell_at : (row : Row) (g : Shape) (c : ℕ) → part_in row (cell_at g c) ≡ part_at row g c
 part_in-cell_at Send g c = refl
 part_in-cell_at Recv g c = refl
 part_in-cell_at Piece g c = refl
 
+-- and so is the part of the cell that the list has at a place
 part_there : (row : Row) (g : Shape) (all : List Cell) (c : ℕ) (d : Cell) → IsTable (cell_at g) (cells g) all → c < length all → part_in row (get_or all c d) ≡ part_at row g c
 part_there row g all c d is inside =
     let size = table_len (cell_at g) (cells g) all is in
     ap (part_in row) (table_at (cell_at g) (cells g) c d all is (omega arith)) ∙ part_in-cell_at row g c
 
--- one turn of the pass over the cells
+-- one turn of the pass where the cell's part is new: the cell is pushed
 pub so_far_pushed : (row : Row) (g : Shape) (all : List Cell) (d : Cell) (c part : ℕ) (firsts firsts' : List ℕ) → IsShape g
     → IsTable (cell_at g) (cells g) all → c < length all → SoFar (part_at row g) (cells g) c firsts
     → part ≡ part_in row (get_or all c d) → part ≡ length firsts → firsts' ≡ firsts ++ c ∷ [] → SoFar (part_at row g) (cells g) (c + 1) firsts'
@@ -106,6 +113,7 @@ so_far_pushed row g all d c part firsts firsts' v is inside s part_is new after 
     rw after (so_far_new (part_at row g) (cells g) (part_count row g) c firsts (row_is row g v) (omega arith) s
     (sym (part_there row g all c d is inside) ∙ sym part_is ∙ new))
 
+-- one turn where the part has its first cell already: the table stays
 pub so_far_kept : (row : Row) (g : Shape) (all : List Cell) (d : Cell) (c part : ℕ) (firsts : List ℕ) → IsShape g
     → IsTable (cell_at g) (cells g) all → c < length all → SoFar (part_at row g) (cells g) c firsts
     → part ≡ part_in row (get_or all c d) → part ≢ length firsts → SoFar (part_at row g) (cells g) (c + 1) firsts
@@ -137,6 +145,7 @@ pub record IsRunOf (g : Shape) (i first after : ℕ) (a b : Cell) : Type 0 where
   pub ordered : a.send ≤ b.send + 1
   pub small : b.send < 1024
 
+-- the numbers read from the tables for piece i are those of the piece, and small enough to reckon with
 pub run_of : (g : Shape) → IsShape g → (all : List Cell) (firsts : List ℕ) (i first after : ℕ) (d e : Cell) → IsTable (cell_at g) (cells g) all
     → IsTable (cells_before (piece_of g) (cells g)) (pieces g + 1) firsts → i < pieces g → first ≡ get_or firsts i 0 → after ≡ get_or firsts (i + 1) 0
     → IsRunOf g i first after (get_or all first d) (get_or all (after - 1) e)
@@ -175,6 +184,7 @@ pub record IsCounted (g : Shape) : Type 0 where
   pub order : pieces g ≤ cells g
   pub few : cells g < 2048
 
+-- the numbers of cells and pieces keep these limits
 pub counted : (g : Shape) → IsShape g → IsCounted g
 counted g v =
     let h = cells-few g v in

@@ -56,6 +56,7 @@ impl PieceRun {
         requires piece { i < pieces geometry }
         ensures { result ≡ run_at geometry i }
     {
+        // The geometry's limits, for the proof.
         let _total = geometry.total();
         let first = firsts[i];
         let after = firsts[i + 1];
@@ -80,6 +81,7 @@ fn first_cells(
     requires { AreCells geometry all.now }
     ensures { IfOk result (λ firsts. AreFirsts row geometry firsts.items) }
 {
+    // The geometry's limits, for the proof.
     let _total = geometry.total();
     let mut firsts = Vec::new(alloc);
     for (c, cell) in all.iter().enumerate() {
@@ -102,6 +104,7 @@ fn piece_runs(
     requires piece_firsts { AreFirsts Row.Piece geometry firsts.now }
     ensures { IfOk result (λ runs. AreRuns geometry runs.items) }
 {
+    // The geometry's limits, for the proof.
     let _total = geometry.total();
     let mut runs = Vec::new(alloc);
     for i in 0..firsts.len() - 1 {
@@ -137,6 +140,7 @@ impl Tables {
     pub fn new(alloc: Global, geometry: Geometry) -> Result<Tables, AllocError>
         ensures { IfOk result (λ tables. tables ≡ geometry) }
     {
+        // The geometry's limits, for the proof.
         let _total = geometry.total();
         let cells = all_cells(alloc, geometry)?;
         let sent = first_cells(alloc, geometry, Row::Send, &cells)?;
