@@ -1,4 +1,5 @@
--- What is left of the groups when the bit of one partition is added to its claim word, and its claim pends.
+-- What is left of the groups when the bit of one partition is added to its claim word, and its claim pends. A group
+-- reads of the claim words what `Gains` says; each piece that the partition touches is owed by the new claim.
 use Rattle.std.proofs.Common.{◌≡◌, ◌≢◌, inl, inr, ℕ, ◌+◌, ◌-◌, ◌/◌, ◌%◌, ◌^◌, ◌<◌, ◌≤◌, Bool, true, ◌==◌, ◌&&◌, [], Option, Some, None, refl, sym, ap, ◌∙◌, subst, arith, bit_or}
 use Rattle.std.specs.Prelude.{if◌then◌else◌}
 use Rattle.std.proofs.lemmas.Bool.{cases_lt, cases_eq, cases_Bool, eqb-true, eq-eqb, and_parts, and_from, false≢true}
@@ -23,11 +24,16 @@ use Rattle.pair_core.proofs.Cut.{cell_recv, cell_piece, cell_touches, cell_touch
 
 -- the words h are the words f but for the bit of partition p, which h has
 pub record Gains (f h : ℕ → ℕ) (p : ℕ) : Type 0 where
+  -- each word has the round that it had
   pub round : (c : ℕ) → round_in (h c) ≡ round_in (f c)
+  -- and is shut where it was
   pub shut : (c : ℕ) → bit (h c) 32 ≡ bit (f c) 32
+  -- p is claimed
   pub here : part_bit h p ≡ 1
+  -- every other partition is claimed where it was
   pub rest : (q : ℕ) → q ≢ p → part_bit h q ≡ part_bit f q
 
+-- the or of p's bit to p's word makes such words
 pub gains : (f : ℕ → ℕ) (p : ℕ) → Gains f (put f (p / 32) (bit_or (f (p / 32)) (2 ^ (p % 32)))) p
 gains f p =
     let w : ℕ = bit_or (f (p / 32)) (2 ^ (p % 32)) in
@@ -39,6 +45,7 @@ gains f p =
           (λ word. bit_or_else (f (p / 32)) (p % 32) (q % 32) (λ same. other (omega arith))) (λ _ _ _. refl) (q / 32) refl;
     }
 
+-- what was claimed is claimed
 pub gains_one : (f h : ℕ → ℕ) (p : ℕ) → Gains f h p → (q : ℕ) → part_bit f q ≡ 1 → part_bit h q ≡ 1
 gains_one f h p a q one = elim (cases_eq q p) [
   | inl e ↦ subst (λ (z : ℕ). part_bit h z ≡ 1) (sym e) a.here
@@ -57,15 +64,24 @@ slots_cases slot place these x d c P here rest = elim (cases_Bool ((d == place) 
 
 -- partition p may be claimed: the sender's round is open for it, and no piece has it
 pub record IsFree (g : Shape) (claim : ℕ → ℕ) (piece : ℕ → ℕ → ℕ) (send : SendSide) (p : ℕ) : Type 0 where
+  -- p is a send partition of the pair
   pub inside : p < g.send_parts
+  -- no claim word is shut in the sender's round
   pub shut : send.shut ≡ 0
+  -- the word of p is opened in it
   pub opened : p / 32 < send.opened
+  -- p isn't claimed
   pub lacks : part_bit claim p ≡ 0
+  -- the sender is in a round
   pub round : 1 ≤ send.round
+  -- which the word of p has
   pub now : round_in (claim (p / 32)) ≡ send.round
+  -- all piece words are stored for it
   pub all : send.pieces ≡ pieces g
+  -- and no piece that p touches has it
   pub unlaid : (i : ℕ) → i < pieces g → Touches g i p → laid g (piece (send.round % g.depth) i) i p ≡ 0
 
+-- it may where its claim word is open and lacks it
 pub free_of : (g : Shape) → IsShape g → (claim : ℕ → ℕ) (piece : ℕ → ℕ → ℕ) (released : ℕ) (send : SendSide) (recv : RecvSide) (p : ℕ) → Progress g released send recv → Gates g claim send → Pieces g claim piece send
     → p < g.send_parts → bit (claim (p / 32)) 32 ≡ 0 → part_bit claim p ≡ 0 → IsFree g claim piece send p
 free_of g v claim piece released send recv p progress gates laid_in inside unshut lacks =
@@ -98,6 +114,7 @@ free_of g v claim piece released send recv p progress gates laid_in inside unshu
           ];
     }
 
+-- the gates hold of the words with p
 pub gates_gain : (g : Shape) (f h : ℕ → ℕ) (p : ℕ) (send : SendSide) → Gains f h p → Gates g f send → Gates g h send
 gates_gain g f h p send a r = record {
   is_shut = λ c high. let o = r.is_shut c high in (a.round c ∙ o.0, a.shut c ∙ o.1);
@@ -107,6 +124,7 @@ gates_gain g f h p send a r = record {
   all_past = λ q inside more. gains_one f h p a q (r.all_past q inside more);
 }
 
+-- and so does the group of the pieces
 pub pieces_gain : (g : Shape) (f h : ℕ → ℕ) (piece : ℕ → ℕ → ℕ) (p : ℕ) (send : SendSide) → Gains f h p → Pieces g f piece send → Pieces g h piece send
 pieces_gain g f h piece p send a r = record {
   other = r.other;
@@ -120,6 +138,7 @@ pieces_gain g f h piece p send a r = record {
 abbrev pub begun : ℕ → ℕ → Pending
 begun k p = record { round = k; partition = p; laid = [] }
 
+-- the group of the claims holds where the claim of p pends at the marker n
 pub claims_gain : (g : Shape) → IsShape g → (f h : ℕ → ℕ) (piece : ℕ → ℕ → ℕ) (send : SendSide) (life : ℕ → Life) (pending : ℕ → Option Pending) (who : ℕ → ℕ → ℕ) (n p : ℕ)
     → Gains f h p → IsFree g f piece send p → IsMarker n → life n ≡ Live → pending n ≡ None
     → Claims g f piece send life pending who → Claims g h piece send life (put pending n (Some (begun send.round p))) (put_pair who send.round p n)
@@ -179,6 +198,7 @@ free_unheld g v claim take ret piece send recv p c free arrived inside cell plac
     let one : laid g (piece (send.round % g.depth) i) i p ≡ 1 = subst (λ (d : ℕ). laid g (piece d i) i p ≡ 1) place (full.all p t) in
     let zero = free.unlaid i low t in omega arith
 
+-- the group of the slots holds where those of p's cells at the sender's place went out to n
 pub slots_gain : (g : Shape) → IsShape g → (f h take ret : ℕ → ℕ) (piece : ℕ → ℕ → ℕ) (send : SendSide) (recv : RecvSide) (slot : ℕ → ℕ → Slot) (who : ℕ → ℕ → ℕ) (n p : ℕ)
     → Gains f h p → IsFree g f piece send p → Arrived g take piece recv
     → Slots g f take ret piece send recv slot who

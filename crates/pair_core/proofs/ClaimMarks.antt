@@ -1,4 +1,5 @@
--- What is left of the marks when a marker claims a partition.
+-- What is left of the marks when a marker claims a partition: its list has the new mark before the old ones, and the
+-- next round of that partition alone is one more.
 use Rattle.std.proofs.Common.{◌≡◌, ◌≢◌, ◌⊎◌, inl, inr, ℕ, ◌+◌, ◌/◌, ◌<◌, ◌≤◌, Bool, ◌==◌, ◌&&◌, List, ◌∷◌, refl, sym, ap, ◌∙◌, subst, arith}
 use Rattle.std.specs.Prelude.{if◌then◌else◌}
 use Rattle.std.proofs.lemmas.Bool.{cases_eq, cases_Bool, eqb-true, eq-eqb, and_parts, and_from, false≢true}
@@ -26,18 +27,23 @@ times_cases {A} k p a ms j q P here rest = elim (cases_Bool ((k == j) && (p == q
       subst P e (rest (λ both. false≢true (sym fails ∙ and_from (k == j) (p == q) (eq-eqb k j (sym both.0)) (eq-eqb p q (sym both.1))))))
 ]
 
+-- the new mark counts once more in its round and partition
 pub times_here : {A : Type 0} (k p : ℕ) (a : A) (ms : List (Mark A)) → times k p (mark k p a ∷ ms) ≡ 1 + times k p ms
 times_here {A} k p a ms = times_cases k p a ms k p (λ z. z ≡ 1 + times k p ms) (λ _ _. refl) (λ not. absurd (not (refl, refl)))
 
+-- and in no other
 pub times_else : {A : Type 0} (k p : ℕ) (a : A) (ms : List (Mark A)) (j q : ℕ) → ¬ ((j ≡ k) × (q ≡ p)) → times j q (mark k p a ∷ ms) ≡ times j q ms
 times_else {A} k p a ms j q other = times_cases k p a ms j q (λ z. z ≡ times j q ms) (λ e f. absurd (other (e, f))) (λ _. refl)
 
+-- the claim of p leaves the next round of every other partition
 pub next_rest : (f h : ℕ → ℕ) (p : ℕ) → Gains f h p → (q : ℕ) → q ≢ p → next_round h q ≡ next_round f q
 next_rest f h p a q other = let e = a.round (q / 32) in let o = a.rest q other in omega arith
 
+-- the next round of p is the one after its word's
 pub next_here : (f h : ℕ → ℕ) (p k : ℕ) → Gains f h p → round_in (f (p / 32)) ≡ k → next_round h p ≡ k + 1
 next_here f h p k a now = let e = a.round (p / 32) in let o = a.here in omega arith
 
+-- where p wasn't claimed no next round is lower than before
 pub next_more : (f h : ℕ → ℕ) (p : ℕ) → Gains f h p → part_bit f p ≡ 0 → (q : ℕ) → next_round f q ≤ next_round h q
 next_more f h p a lacks q = elim (cases_eq q p) [
   | inl e ↦ subst (λ (z : ℕ). next_round f z ≤ next_round h z) (sym e) (let b = next_here f h p (round_in (f (p / 32))) a refl in omega arith)
@@ -48,6 +54,7 @@ next_more f h p a lacks q = elim (cases_eq q p) [
 abbrev pub Owned : Shape → (ℕ → ℕ) → (ℕ → Life) → (ℕ → ℕ → ℕ) → ℕ → ℕ → ℕ → Type 0
 Owned g claim life who m j q = (who j q ≡ m) × (1 ≤ j) × (q < g.send_parts) × (j < next_round claim q) × ((m ≡ 0) ⊎ (IsMarker m × (life m ≡ Live)))
 
+-- the group of the marks holds after the claim: n is who has the mark of p in round k
 pub marks_gain : {A : Type 0} (g : Shape) (f h : ℕ → ℕ) (life : ℕ → Life) (marks : ℕ → List (Mark A)) (who : ℕ → ℕ → ℕ) (k n p : ℕ) (a : A)
     → Gains f h p → p < g.send_parts → part_bit f p ≡ 0 → round_in (f (p / 32)) ≡ k → 1 ≤ k → IsMarker n → life n ≡ Live
     → Marks g f life marks who → Marks g h life (put marks n (mark k p a ∷ marks n)) (put_pair who k p n)

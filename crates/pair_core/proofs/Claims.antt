@@ -1,4 +1,5 @@
--- A marker's try to claim keeps soundness, and what is so where a partition may be claimed.
+-- A marker's try to claim keeps soundness, and what is so where a partition may be claimed. A try that wins goes group
+-- by group, by the lemmas of ClaimGroups and ClaimMarks; one that loses is a load.
 use Rattle.std.proofs.Common.{◌≡◌, ◌≢◌, inl, inr, ℕ, ◌/◌, ◌%◌, ◌^◌, ◌<◌, ◌≤◌, Bool, ◌==◌, Some, None, sym, ap, ◌∙◌, subst, arith, bit_or}
 use Rattle.std.specs.Prelude.{if◌then◌else◌}
 use Rattle.std.proofs.lemmas.Bool.{cases_lt, cases_eq, cases_Bool, eqb-true}
@@ -23,6 +24,7 @@ use Rattle.pair_core.proofs.Loads.{loads_keeps}
 use Rattle.pair_core.proofs.ClaimGroups.{Gains, gains, IsFree, free_of, free_unheld, gates_gain, pieces_gain, claims_gain, slots_gain}
 use Rattle.pair_core.proofs.ClaimMarks.{marks_gain}
 
+-- the receive side, seat 1, is no marker
 pub marker_not_one : (n : ℕ) → IsMarker n → n ≢ 1
 marker_not_one n sort e = let low = sort.0 in omega arith
 
@@ -35,11 +37,16 @@ module _ {A : Type 0} where
 
   -- an open claim word is of the sender's round, which is stored in all piece words
   pub record IsOpen (g : Shape) (s : Core A) (c : ℕ) : Type 0 where
+    -- the word isn't among those shut in the round
     pub unshut : s.send.shut ≤ c
+    -- it is among those opened in it
     pub opened : c < s.send.opened
+    -- it has the sender's round
     pub round : round_in (s.word (Claim c)) ≡ s.send.round
+    -- and all piece words are stored for that round
     pub stored : s.send.pieces ≡ pieces g
 
+  -- a claim word whose bit 32 isn't set is such a one
   pub open_word : (g : Shape) (s : Core A) (c : ℕ) → Sound g s → c < claim_words g → bit (s.word (Claim c)) 32 ≡ 0 → IsOpen g s c
   open_word g s c r inside unshut =
       let opened : c < s.send.opened = elim (cases_lt c s.send.opened) [
@@ -87,6 +94,7 @@ module _ {A : Type 0} where
   pub seen_may : (s : Core A) (n p : ℕ) → s.word (Claim (p / 32)) ≡ s.seen n (Claim (p / 32)) → MayClaim (s.seen n) p → MayClaim s.word p
   seen_may s n p e may = (ap (λ (z : ℕ). bit z 32) e ∙ may.0, ap (λ (z : ℕ). bit z (p % 32)) e ∙ may.1)
 
+  -- won or lost, the try keeps soundness
   pub tries_claim_keeps : (g : Shape) → IsShape g → (s : Core A) (n p : ℕ) (a : A) → Sound g s → IsAllowed g s (TryClaim n p a) → Sound g (after g s (TryClaim n p a))
   tries_claim_keeps g v s n p a r ok = elim (cases_Bool (s.word (Claim (p / 32)) == s.seen n (Claim (p / 32)))) [
     | inl wins ↦ subst (λ (b : Bool). Sound g (if b then claims g n p a s else loads n (Claim (p / 32)) s)) (sym wins)

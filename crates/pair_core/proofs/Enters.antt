@@ -1,4 +1,5 @@
--- A seat's first event, loads, and what a seat learns keep soundness.
+-- A seat's first event, loads, and what a seat learns keep soundness. These change who has a view and what was seen,
+-- and the groups of words and slots read neither; the seats that are out are one more, in the list that counts them.
 use Rattle.std.proofs.Common.{◌≡◌, ◌≢◌, inl, inr, ⊎_elim, ℕ, ◌+◌, ◌%◌, ◌<◌, ◌≤◌, Bool, true, false, ◌==◌, List, ◌∷◌, Option, Some, refl, sym, ap, ◌∙◌, subst, arith}
 use Rattle.std.specs.Prelude.{if◌then◌else◌}
 use Rattle.std.proofs.lemmas.Bool.{cases_lt, cases_eq, eq-eqb, ne_eqb}
@@ -44,12 +45,15 @@ progress_counts g released send recv m w p = record {
   current = p.current;
 }
 
+-- the gates, for any count of markers
 pub gates_counts : (g : Shape) (claim : ℕ → ℕ) (send : SendSide) (m : ℕ) → Gates g claim send → Gates g claim (record send { markers = m })
 gates_counts g claim send m h = record { is_shut = h.is_shut; is_open = h.is_open; is_past = h.is_past; all_ended = h.all_ended; all_past = h.all_past }
 
+-- the pieces, for any count of markers
 pub pieces_counts : (g : Shape) (claim : ℕ → ℕ) (piece : ℕ → ℕ → ℕ) (send : SendSide) (m : ℕ) → Pieces g claim piece send → Pieces g claim piece (record send { markers = m })
 pieces_counts g claim piece send m h = record { other = h.other; waiting = h.waiting; current = h.current; ended = h.ended; claimed = h.claimed }
 
+-- the take and return words, for any count of watchers
 pub receiving_counts : (g : Shape) (take ret : ℕ → ℕ) (recv : RecvSide) (w : ℕ) → Receiving g take ret recv → Receiving g take ret (record recv { watchers = w })
 receiving_counts g take ret recv w r = record {
   return_now = r.return_now;
@@ -84,6 +88,7 @@ claims_counts g claim piece send life life' pending who who' m alive same h = re
       (have.0, ap pending (same send.round p have.0 have.1) ∙ have.1, have.2);
 }
 
+-- the slots, where each that is lent is lent to the same seat
 pub slots_counts : (g : Shape) (claim take ret : ℕ → ℕ) (piece : ℕ → ℕ → ℕ) (send : SendSide) (recv : RecvSide) (slot : ℕ → ℕ → Slot) (who who' : ℕ → ℕ → ℕ) (m w : ℕ)
     → ((c : ℕ) → c < cells g → IsLent g claim piece send c → who' send.round (send_of g c) ≡ who send.round (send_of g c))
     → Slots g claim take ret piece send recv slot who → Slots g claim take ret piece (record send { markers = m }) (record recv { watchers = w }) slot who'
@@ -98,6 +103,7 @@ slots_counts g claim take ret piece send recv slot who who' m w same h = record 
 pub occurs_here : (n : ℕ) (ms : List ℕ) → occurrences n (n ∷ ms) ≡ 1 + occurrences n ms
 occurs_here n ms = ap (λ (b : Bool). (if b then 1 else 0) + occurrences n ms) (eq-eqb n n refl)
 
+-- another number before it changes no count
 pub occurs_else : (n m : ℕ) (ms : List ℕ) → m ≢ n → occurrences n (m ∷ ms) ≡ occurrences n ms
 occurs_else n m ms other = ap (λ (b : Bool). (if b then 1 else 0) + occurrences n ms) (ne_eqb m n other) ∙ omega arith
 
@@ -210,20 +216,25 @@ module _ {A : Type 0} where
   counted_there true n s = live_not_blank (put s.life n Live n) (put_here s.life n Live)
   counted_there false n s = live_not_blank (put s.life n Live n) (put_here s.life n Live)
 
+  -- so no seat is blank after it entered
   pub entered_there : (l : Life) (n : ℕ) (s : Core A) → s.life n ≡ l → (entered l n s).life n ≢ Blank
   entered_there Blank n s e = counted_there (n % 2 == 0) n s
   entered_there Live n s e = live_not_blank (s.life n) e
   entered_there Spent n s e = λ f. absurd (cc)
 
+  -- to get a view keeps soundness
   pub split_keeps : (g : Shape) (s : Core A) (n : ℕ) → Sound g s → IsAllowed g s (Split n) → Sound g (after g s (Split n))
   split_keeps g s n r allowed = enters_keeps g s n (let blank : s.life n ≡ Blank = allowed.1 in λ e. absurd (cc)) r
 
+  -- a load of a claim word keeps soundness, and with it the first event
   pub load_claim_keeps : (g : Shape) (s : Core A) (n c : ℕ) → Sound g s → IsAllowed g s (LoadClaim n c) → Sound g (after g s (LoadClaim n c))
   load_claim_keeps g s n c r allowed = loads_keeps g (enters n s) n (Claim c) (entered_there (s.life n) n s refl) (enters_keeps g s n allowed.0 r)
 
+  -- so does a load of a piece word
   pub load_piece_keeps : (g : Shape) (s : Core A) (n d i : ℕ) → Sound g s → IsAllowed g s (LoadPiece n d i) → Sound g (after g s (LoadPiece n d i))
   load_piece_keeps g s n d i r allowed = loads_keeps g (enters n s) n (Piece d i) (entered_there (s.life n) n s refl) (enters_keeps g s n allowed.0 r)
 
+  -- and of the release word, which the send side alone reads
   pub load_release_keeps : (g : Shape) (s : Core A) → Sound g s → IsAllowed g s LoadRelease → Sound g (after g s LoadRelease)
   load_release_keeps g s r allowed = loads_keeps g s 0 Release (live_not_blank (s.life 0) r.lives.send) r
 

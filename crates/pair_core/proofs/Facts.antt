@@ -21,6 +21,7 @@ pub use Rattle.pair_core.proofs.Cut.{touch_part, bit_small}
 use Rattle.pair_core.proofs.Grow.{words_grow}
 pub use Rattle.pair_core.proofs.Start.{starts_sound}
 
+-- each sentence of what a layer above may rest on holds, by the lemma of its name or one beside it
 pub facts : {A : Type 0} (g : Shape) → IsShape g → StateFacts A g
 facts {A} g v = record {
   words_grow = words_grow g v;

@@ -88,6 +88,7 @@ module _ {A : Type 0} where
       (λ (old : laid g (f d (piece_of g c)) (piece_of g c) (send_of g c) ≡ 1). inr (record { laid = old; kept = omega arith }, same))
       (fills_was g f h place i x.partition fill d (piece_of g c) (send_of g c) (cell_piece g c within) (cell_touches g c within) has.laid)
 
+  -- after any move: the lay brought the buffer home, or it had the round before
   pub kept_before : (g : Shape) → IsShape g → (s : Core A) (m : Move A) (d c : ℕ) → Sound g s → IsAllowed g s m → d < g.depth → c < cells g → IsKept g (after g s m) d c
       → BringsHome g s m d c ⊎ (IsKept g s d c × (round_in (piece_word g (after g s m) d c) ≡ round_in (piece_word g s d c)))
   kept_before g v s (StorePiece k i) d c r ok low within has = inr (stays_stored g v s k i d c within has)

@@ -1,4 +1,5 @@
--- What marks and takes are there, by what a seat has seen of the claim words and by how far the sides are.
+-- What marks and takes are there, by what a seat has seen of the claim words and by how far the sides are: a
+-- partition's next round says in which rounds it was marked, and what was seen is no later than the word.
 use Rattle.std.proofs.Common.{◌≡◌, ◌≢◌, ◌⊎◌, inl, inr, ⊎_elim, ℕ, ◌+◌, ◌-◌, ◌/◌, ◌%◌, ◌<◌, ◌≤◌, Some, None, sym, ap, ◌∙◌, arith}
 use Rattle.std.proofs.lemmas.Bool.{cases_lt, cases_eq}
 use Rattle.gate_word.specs.Words.{round_in}
@@ -27,12 +28,14 @@ module _ {A : Type 0} where
     | inr other ↦ omega arith
   ]
 
+  -- an open claim word is of the sender's round, opened in it and not shut
   pub open_is_active : (g : Shape) → IsShape g → (s : Core A) (c : ℕ) → Sound g s → c < claim_words g → bit (s.word (Claim c)) 32 ≡ 0
       → (round_in (s.word (Claim c)) ≡ s.send.round) × (1 ≤ s.send.round) × (s.send.shut ≤ c) × (c < s.send.opened)
   open_is_active g v s c r inside unshut =
       let o = open_word g s c r inside unshut in let least = o.unshut in
       (o.round, round_some g v s r (omega arith), o.unshut, o.opened)
 
+  -- where a partition may be claimed no claim word is shut, and its own is opened in the sender's round
   pub may_claim_active : (g : Shape) → IsShape g → (s : Core A) (p : ℕ) → Sound g s → p < g.send_parts → MayClaim s.word p
       → (round_in (s.word (Claim (p / 32))) ≡ s.send.round) × (1 ≤ s.send.round) × (s.send.shut ≡ 0) × (p / 32 < s.send.opened)
   may_claim_active g v s p r inside may = let free = claim_free g v s p r inside may in (free.now, free.round, free.shut, free.opened)
@@ -47,6 +50,7 @@ module _ {A : Type 0} where
     | inr late ↦ let e = (r.gates.is_past (p / 32) (omega arith) word).0 in omega arith
   ]
 
+  -- each mark is of a partition of the pair, in a round from 1 to the sender's
   pub only_marked : (g : Shape) (s : Core A) (n k p : ℕ) → Sound g s → 1 ≤ times k p (s.marks n) → (1 ≤ k) × (k ≤ s.send.round) × (p < g.send_parts)
   only_marked g s n k p r some = let o = r.marks.own n k p some in let below = o.3 in let most = claim_next g s p r o.2 in (o.1, omega arith, o.2)
 
@@ -86,6 +90,7 @@ module _ {A : Type 0} where
         | inr other ↦ omega arith
       ]
 
+  -- what a seat has seen claimed in a round, or its word shut in it, has its mark of that round in a view
   pub claimed_marked : (g : Shape) (s : Core A) (n k p : ℕ) → Sound g s → s.life n ≢ Spent → 1 ≤ k → p < g.send_parts
       → (k < next_round (λ c. s.seen n (Claim c)) p) ⊎ ((round_in (s.seen n (Claim (p / 32))) ≡ k) × (bit (s.seen n (Claim (p / 32))) 32 ≡ 1))
       → (m : ℕ) × (times k p (s.marks m) ≡ 1)
@@ -105,6 +110,7 @@ module _ {A : Type 0} where
       let more = later_bit (s.seen 0 (Claim c)) (s.word (Claim c)) (r.seen.present 0 (Claim c) (live_unspent (s.life 0) r.lives.send) inside) (round ∙ sym word.0) 32 (omega arith) in
       (round, omega arith)
 
+  -- while no marker is out, what the send side has seen claimed in its round it has the mark of
   pub seen_marked : (g : Shape) → IsShape g → (s : Core A) (p : ℕ) → Sound g s → s.send.markers ≡ 0 → IsSendActive g s.send → p < g.send_parts → part_bit (λ c. s.seen 0 (Claim c)) p ≡ 1
       → times s.send.round p (s.marks 0) ≡ 1
   seen_marked g v s p r none active inside saw =
@@ -143,17 +149,21 @@ module _ {A : Type 0} where
     | inr late ↦ let e = r.receiving.take_past (q / 32) (omega arith) word in omega arith
   ]
 
+  -- each take is of a partition of the pair, in a round from 1 to the receiver's
   pub only_taken : (g : Shape) (s : Core A) (k q : ℕ) → Sound g s → 1 ≤ times k q s.takes → (1 ≤ k) × (k ≤ s.recv.round) × (q < g.recv_parts)
   only_taken g s k q r some = let o = r.takes.own k q some in let below = o.2 in let most = take_next g s q r o.1 in (o.0, omega arith, o.1)
 
+  -- once its round is released, the receive side has the take of each partition in each round up to it
   pub all_taken : (g : Shape) (s : Core A) (k q : ℕ) → Sound g s → s.recv.released ≡ 1 → 1 ≤ k → k ≤ s.recv.round → q < g.recv_parts → times k q s.takes ≡ 1
   all_taken g s k q r released low high inside =
       let all = r.progress.ends_last (omega arith) in let word = take_word g q inside in
       let now = r.receiving.take_now (q / 32) (omega arith) in let has = (r.receiving.done q inside released).0 in
       r.takes.all k q low inside (omega arith)
 
+  -- once it is released, the receiver's round isn't above the sender's
   pub received_sent : (g : Shape) (s : Core A) → Sound g s → s.recv.released ≡ 1 → s.recv.round ≤ s.send.round
   received_sent g s r released = let behind = r.progress.behind in let current = r.progress.current in omega arith
 
+  -- to enter changes nothing for a seat that has a view
   pub enters_live : (s : Core A) (n : ℕ) → s.life n ≡ Live → enters n s ≡ s
   enters_live s n live = ap (λ (l : Life). entered l n s) live

@@ -1,4 +1,5 @@
--- What a step on one word leaves of the groups that range over all words and seats.
+-- What a step on one word leaves of the groups that range over all words and seats: it is enough to look at the word
+-- and the seat that changed.
 use Rattle.std.proofs.Common.{◌≡◌, ◌≢◌, ℕ, ◌^◌, ◌<◌, List, Option, refl, sym, ap, ◌∙◌, subst, bit_or}
 use Rattle.gate_word.specs.Order.{IsLater}
 use Rattle.part_geometry.specs.Shape.{Shape}
@@ -77,11 +78,13 @@ module _ {A : Type 0} where
   news_else g life seen looks pending marks n f h some = news_kept g life life seen (put seen n f) looks (put looks n h) pending pending marks marks
       (λ m blank. let other : m ≢ n = λ e. some (ap life (sym e) ∙ blank) in (blank, put_else seen n f m other, put_else looks n h m other, refl, refl))
 
+  -- and its pending claim and its marks changed too
   pub news_claim : (g : Shape) (life : ℕ → Life) (seen looks : ℕ → Name → ℕ) (pending : ℕ → Option Pending) (marks : ℕ → List (Mark A)) (n : ℕ) (f h : Name → ℕ) (o : Option Pending) (l : List (Mark A))
       → life n ≢ Blank → News g life seen looks pending marks → News g life (put seen n f) (put looks n h) (put pending n o) (put marks n l)
   news_claim g life seen looks pending marks n f h o l some = news_kept g life life seen (put seen n f) looks (put looks n h) pending (put pending n o) marks (put marks n l)
       (λ m blank. let other : m ≢ n = λ e. some (ap life (sym e) ∙ blank) in (blank, put_else seen n f m other, put_else looks n h m other, put_else pending n o m other, put_else marks n l m other))
 
+  -- and its pending claim changed too
   pub news_lay : (g : Shape) (life : ℕ → Life) (seen looks : ℕ → Name → ℕ) (pending : ℕ → Option Pending) (marks : ℕ → List (Mark A)) (n : ℕ) (f h : Name → ℕ) (o : Option Pending)
       → life n ≢ Blank → News g life seen looks pending marks → News g life (put seen n f) (put looks n h) (put pending n o) marks
   news_lay g life seen looks pending marks n f h o some = news_kept g life life seen (put seen n f) looks (put looks n h) pending (put pending n o) marks marks
@@ -100,9 +103,11 @@ pub unused_put : (g : Shape) (word : Name → ℕ) (x : Name) (w : ℕ) → Unus
 unused_put g word x w all clean y j fits small unused =
     any_word x y w word (λ z v. Fits g z → ¬ IsUsed g z j → bit v j ≡ 0) (λ f o. clean f j small o) (λ z f o. all z j f small o) fits unused
 
+-- a word is put that is empty
 pub unused_empty : (g : Shape) (word : Name → ℕ) (x : Name) (k : ℕ) → Unused g word → Unused g (put_word x (empty k) word)
 unused_empty g word x k all = unused_put g word x (empty k) all (λ _ j small _. empty_bit k j small)
 
+-- a bit is added that stands for something
 pub unused_or : (g : Shape) (word : Name → ℕ) (x : Name) (i : ℕ) → Unused g word → (Fits g x → IsUsed g x i) → Unused g (put_word x (bit_or (word x) (2 ^ i)) word)
 unused_or g word x i all used = unused_put g word x (bit_or (word x) (2 ^ i)) all
     (λ f j small other. bit_or_else (word x) i j (λ e. other (subst (IsUsed g x) (sym e) (used f))) ∙ all x j f small other)

@@ -1,4 +1,5 @@
--- Words only grow: after an allowed move each word is the one before it or later.
+-- Words only grow: after an allowed move each word is the one before it or later. A move changes one word at most: it
+-- adds a bit to it, or stores a later round's.
 use Rattle.std.proofs.Common.{◌≡◌, ◌≢◌, ◌⊎◌, inl, inr, ⊎_elim, ℕ, suc, ◌+◌, ◌-◌, ◌*◌, ◌/◌, ◌%◌, ◌^◌, ◌<◌, ◌≤◌, Bool, true, false, ◌==◌, Option, Some, None, refl, sym, ap, ◌∙◌, subst, arith, bit_or}
 use Rattle.std.specs.Prelude.{if◌then◌else◌}
 use Rattle.gate_word.specs.Words.{round_in}
@@ -75,6 +76,7 @@ module _ {A : Type 0} where
       (λ more. let e = r.receiving.return_past t (omega arith) a.0 in omega arith)
       a.2
 
+  -- whichever the move is, no word is earlier after it
   pub words_grow : (g : Shape) → IsShape g → (s : Core A) (m : Move A) (x : Name) → Sound g s → IsAllowed g s m → Fits g x → IsLater (s.word x) ((after g s m).word x)
   words_grow g v s (StorePiece k i) x r a fits = grown g s (Piece (k % g.depth) i) (empty k) (λ _. later_newer _ _ (let low = stores_piece_word g v s k i r a in let e = empty_round k in omega arith)) x fits
   words_grow g v s (StoreClaim k c) x r a fits = grown g s (Claim c) (empty s.send.round)

@@ -1,4 +1,5 @@
--- What a claim and a lay add to the history.
+-- What a claim and a lay add to the history: the bound of one partition, or of one partition in a piece, goes up by
+-- one, and where a lay fills the word the piece's own too.
 use Rattle.std.proofs.Common.{◌≡◌, ◌≢◌, inl, inr, ⊎_elim, ℕ, ◌+◌, ◌-◌, ◌/◌, ◌%◌, ◌^◌, ◌<◌, ◌≤◌, min, Bool, true, false, true≢false, ◌==◌, List, [], ◌∷◌, ◌++◌, Option, Some, refl, sym, ap, ◌∙◌, subst, arith, bit_or}
 use Rattle.std.specs.Prelude.{if◌then◌else◌}
 use Rattle.std.proofs.lemmas.Bool.{cases_eq, cases_lt, eqb-true}
@@ -54,13 +55,21 @@ told_mark g claim claim' take piece released send recv h p inside some old new s
 
 -- all of a history but the pieces that went out
 record ButOuts (g : Shape) (claim take : ℕ → ℕ) (piece : ℕ → ℕ → ℕ) (released : ℕ) (send : SendSide) (recv : RecvSide) (h : List Entry) : Type 0 where
+  -- the rounds that were opened: those before the sender's, and it once one of its claim words is open
   pub opens : Upto h entry.Open (send.round + min 1 send.opened)
+  -- the rounds that were shut: those before the sender's, and it once one of its claim words is shut
   pub shuts : Upto h entry.Shut (send.round + min 1 send.shut)
+  -- the rounds that were listened in: those before the receiver's, and it once all take words are stored
   pub listens : Upto h entry.Listen (listen_bound g recv)
+  -- the rounds that were released: up to the one in the release word
   pub releases : Upto h entry.Release (released + 1)
+  -- each partition was marked in the rounds before its next one
   pub marks : (p : ℕ) → p < g.send_parts → Upto h (λ k. entry.Mark k p) (next_round claim p)
+  -- each partition was laid into each piece that it touches, in the rounds below the bound
   pub lays : (i p : ℕ) → i < pieces g → Touches g i p → Upto h (λ k. entry.Lay k p i) (lay_bound g piece send i p)
+  -- each receive partition was taken in the rounds before its next one
   pub takes : (q : ℕ) → q < g.recv_parts → Upto h (λ k. entry.Take k q) (next_round take q)
+  -- the numbers in the entries are those of the pair
   pub within : Within g h
 
 with_outs : (g : Shape) (claim take : ℕ → ℕ) (piece : ℕ → ℕ → ℕ) (released : ℕ) (send : SendSide) (recv : RecvSide) (h : List Entry)
@@ -188,6 +197,7 @@ told_lay g claim take piece released send recv h i p w inside touch stored some 
         ])
 
 module _ {A : Type 0} where
+  -- a try that wins adds the mark, and one that loses nothing
   pub tries_claim_adds : (g : Shape) → IsShape g → (s : Core A) (n p : ℕ) (a : A) (h : List Entry) → Sound g s → IsAllowed g s (TryClaim n p a) → Tells g s h
       → Adds g (after g s (TryClaim n p a)) h (entries g s (TryClaim n p a))
   tries_claim_adds g v s n p a h r may t = go (s.word (Claim (p / 32)) == s.seen n (Claim (p / 32))) refl
@@ -284,6 +294,7 @@ module _ {A : Type 0} where
       go true f told lay out = (told, λ o. (out f, (lay, o)))
       go false f told lay out = (told, λ o. (lay, o))
 
+  -- a lay adds its own entry, and where the word is full then that the piece goes out
   pub lays_piece_adds : (g : Shape) → IsShape g → (s : Core A) (n p i : ℕ) (h : List Entry) → Sound g s → IsAllowed g s (LayPiece n p i) → Tells g s h
       → Adds g (after g s (LayPiece n p i)) h (entries g s (LayPiece n p i))
   lays_piece_adds g v s n p i h r may t =

@@ -1,4 +1,5 @@
--- What the receive side's steps add to the history.
+-- What the receive side's steps add to the history: a bound is one more where an entry is added, and the entry follows
+-- what the bounds say of the history before it.
 use Rattle.std.proofs.Common.{◌≡◌, ◌≢◌, inl, inr, ⊎_elim, ℕ, ◌+◌, ◌-◌, ◌/◌, ◌%◌, ◌^◌, ◌<◌, ◌≤◌, Bool, true, List, [], ◌∷◌, refl, sym, ap, ◌∙◌, subst, arith, bit_or}
 use Rattle.std.proofs.lemmas.Bool.{cases_eq, cases_lt, eq-eqb, ne_eqb}
 use Rattle.gate_word.specs.Words.{round_in}
@@ -201,6 +202,7 @@ module _ {A : Type 0} where
         order = λ o. o;
       }
 
+  -- the last take word that is stored adds the listening, and any other nothing
   pub stores_take_adds : (g : Shape) → IsShape g → (s : Core A) (k t : ℕ) (h : List Entry) → Sound g s → IsAllowed g s (StoreTake k t) → Tells g s h
       → Adds g (after g s (StoreTake k t)) h (entries g s (StoreTake k t))
   stores_take_adds g v s k t h r a told =
@@ -246,6 +248,7 @@ module _ {A : Type 0} where
         })
       ]
 
+  -- a take adds its entry: what was seen full went out before
   pub takes_part_adds : (g : Shape) → IsShape g → (s : Core A) (q : ℕ) (a : A) (h : List Entry) → Sound g s → IsAllowed g s (TakePart q a) → Tells g s h
       → Adds g (after g s (TakePart q a)) h (entries g s (TakePart q a))
   takes_part_adds g v s q a h r may told =
@@ -280,7 +283,7 @@ module _ {A : Type 0} where
         );
       }
 
-  -- what is given back adds nothing
+  -- a release adds its entry: each partition was taken before
   pub stores_release_adds : (g : Shape) → IsShape g → (s : Core A) (k : ℕ) (h : List Entry) → Sound g s → IsAllowed g s (StoreRelease k) → Tells g s h
       → Adds g (after g s (StoreRelease k)) h (entries g s (StoreRelease k))
   stores_release_adds g v s k h r may told =

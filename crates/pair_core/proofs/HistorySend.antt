@@ -1,4 +1,5 @@
--- What the send side's steps add to the history.
+-- What the send side's steps add to the history: a bound is one more where an entry is added, and the entry follows
+-- what the bounds say of the history before it.
 use Rattle.std.proofs.Common.{◌≡◌, ◌≢◌, inl, inr, ⊎_elim, ℕ, ◌+◌, ◌-◌, ◌/◌, ◌%◌, ◌^◌, ◌<◌, ◌≤◌, min, Bool, ◌==◌, List, [], ◌∷◌, ◌++◌, refl, sym, ap, ◌∙◌, subst, arith, bit_or}
 use Rattle.std.proofs.lemmas.Bool.{cases_eq, cases_lt, eq-eqb, ne_eqb}
 use Rattle.gate_word.specs.Words.{round_in}
@@ -24,7 +25,9 @@ use Rattle.pair_core.proofs.Told.{Told, Tells, lay_bound, out_bound, one_if, upt
 
 -- these entries are added: the next state tells them, and each follows what came before it
 pub record Adds {A : Type 0} (g : Shape) (s : Core A) (h es : List Entry) : Type 0 where
+  -- the state tells the history with them
   pub tells : Tells g s (es ++ h)
+  -- and the entries are in order where the older ones are
   pub order : IsInOrder g h → IsInOrder g (es ++ h)
 
 -- each piece touches a partition
@@ -84,6 +87,7 @@ told_piece g v claim take piece released k i send recv h inside n opens shuts ol
     }
 
 module _ {A : Type 0} where
+  -- a store of a piece word adds nothing, whether it begins a round or not
   pub stores_piece_adds : (g : Shape) → IsShape g → (s : Core A) (k i : ℕ) (h : List Entry) → Sound g s → IsAllowed g s (StorePiece k i) → Tells g s h → Adds g (after g s (StorePiece k i)) h []
   stores_piece_adds g v s k i h r a t =
       let claim : ℕ → ℕ = λ c. s.word (Claim c) in let take : ℕ → ℕ = λ x. s.word (Take x) in let piece : ℕ → ℕ → ℕ = λ d j. s.word (Piece d j) in let released : ℕ = round_in (s.word Release) in
@@ -178,6 +182,7 @@ module _ {A : Type 0} where
     | inr n ↦ subst (λ (b : Bool). Adds g s h (where_so b e)) (sym (ne_eqb c 0 n)) (further n)
   ]
 
+  -- the first claim word that is stored adds the opening, and any other nothing
   pub stores_claim_adds : (g : Shape) → IsShape g → (s : Core A) (k c : ℕ) (h : List Entry) → Sound g s → IsAllowed g s (StoreClaim k c) → Tells g s h
       → Adds g (after g s (StoreClaim k c)) h (entries g s (StoreClaim k c))
   stores_claim_adds g v s k c h r a t =
@@ -223,6 +228,7 @@ module _ {A : Type 0} where
         order = λ o. o;
       })
 
+  -- the first claim word that is shut adds the shutting, and any other nothing
   pub shuts_claim_adds : (g : Shape) → IsShape g → (s : Core A) (c : ℕ) (h : List Entry) → Sound g s → IsAllowed g s (ShutClaim c) → Tells g s h
       → Adds g (after g s (ShutClaim c)) h (entries g s (ShutClaim c))
   shuts_claim_adds g v s c h r a t =

@@ -1,4 +1,5 @@
--- A join keeps soundness: a marker's marks go to the send side.
+-- A join keeps soundness: a marker's marks go to the send side. Who had the mark of a round and a partition is the seat
+-- 0 from then on, and the seat is left out of the list that counts those that are out.
 use Rattle.std.proofs.Common.{◌≡◌, ◌≢◌, ◌⊎◌, inl, inr, ⊎_elim, ℕ, ◌+◌, ◌-◌, ◌%◌, ◌<◌, ◌≤◌, Bool, ◌==◌, List, [], ◌∷◌, ◌++◌, length, Some, None, refl, sym, ap, ◌∙◌, subst, arith}
 use Rattle.std.specs.Prelude.{if◌then◌else◌}
 use mathlib.Core.Logic.{dite}
@@ -28,6 +29,7 @@ use Rattle.pair_core.proofs.Enters.{progress_counts, gates_counts, pieces_counts
 unfoldable pub handed : ℕ → (ℕ → ℕ → ℕ) → ℕ → ℕ → ℕ
 handed n who k p = pick (ℕ_discrete (who k p) n) 0 (who k p)
 
+-- what holds of 0 where n had it, and else of who had it, holds of who has it
 pub handed_cases : (n : ℕ) (who : ℕ → ℕ → ℕ) (k p : ℕ) (P : ℕ → Type 0) → (who k p ≡ n → P 0) → (who k p ≢ n → P (who k p)) → P (handed n who k p)
 unfolding handed
 handed_cases n who k p P here rest = go (ℕ_discrete (who k p) n)
@@ -49,17 +51,20 @@ without_cases n m ms P here rest = elim (cases_eq m n) [
   | inr o ↦ subst (λ (b : Bool). P (if b then ms else m ∷ without n ms)) (sym (ne_eqb m n o)) (rest o)
 ]
 
+-- it is shorter by one where it had the number
 pub without_length : (n : ℕ) (l : List ℕ) → 1 ≤ occurrences n l → length (without n l) + 1 ≡ length l
 without_length n [] some = absurd (omega arith)
 without_length n (m ∷ ms) some = without_cases n m ms (λ z. length z + 1 ≡ length (m ∷ ms)) (λ _. omega arith)
     (λ o. let h = without_length n ms (let e = occurs_else n m ms o in omega arith) in omega arith)
 
+-- it has the number once less
 pub without_here : (n : ℕ) (l : List ℕ) → 1 ≤ occurrences n l → occurrences n (without n l) + 1 ≡ occurrences n l
 without_here n [] some = absurd (omega arith)
 without_here n (m ∷ ms) some = without_cases n m ms (λ z. occurrences n z + 1 ≡ occurrences n (m ∷ ms))
     (λ e. subst (λ (z : ℕ). occurrences n ms + 1 ≡ occurrences n (z ∷ ms)) (sym e) (let h = occurs_here n ms in omega arith))
     (λ o. let e = occurs_else n m ms o in let f = occurs_else n m (without n ms) o in let h = without_here n ms (omega arith) in omega arith)
 
+-- and any other as often
 pub without_else : (n k : ℕ) (l : List ℕ) → k ≢ n → occurrences k (without n l) ≡ occurrences k l
 unfolding without
 without_else n k [] other = refl
@@ -81,6 +86,7 @@ counts_less IsSort life n count sort alive h =
     }
 
 module _ {A : Type 0} where
+  -- two lists together have a mark as often as the one and the other
   pub times_both : (k p : ℕ) (a b : List (Mark A)) → times k p (a ++ b) ≡ times k p a + times k p b
   times_both k p [] b = omega arith
   times_both k p (x ∷ a) b = let h = times_both k p a b in omega arith
@@ -89,6 +95,7 @@ module _ {A : Type 0} where
   abbrev pub moved : (ℕ → List (Mark A)) → ℕ → ℕ → List (Mark A)
   moved marks n = put (put marks 0 (marks n ++ marks 0)) n []
 
+  -- what holds of none at n, of both lists at 0 and of each other seat's own holds at each seat
   pub moved_cases : (marks : ℕ → List (Mark A)) (n : ℕ) → 0 ≢ n → (P : ℕ → List (Mark A) → Type 0) → P n [] → P 0 (marks n ++ marks 0) → ((m : ℕ) → m ≢ n → m ≢ 0 → P m (marks m)) → (m : ℕ) → P m (moved marks n m)
   moved_cases marks n two P gone first rest = put_cases (put marks 0 (marks n ++ marks 0)) n [] P gone (λ m other.
       put_cases marks 0 (marks n ++ marks 0) (λ j l. j ≢ n → P j l) (λ _. first) (λ j o o'. rest j o' o) m other)
@@ -195,5 +202,6 @@ module _ {A : Type 0} where
             })
       ]
 
+  -- the move keeps soundness
   pub join_keeps : (g : Shape) → IsShape g → (s : Core A) (n : ℕ) → Sound g s → IsAllowed g s (Join n) → Sound g (after g s (Join n))
   join_keeps g v s n r allowed = joins_keeps g v s n r allowed.0 allowed.1 allowed.2

@@ -1,4 +1,5 @@
--- Every allowed move keeps soundness, and every list of them leads to a state that tells its history.
+-- Every allowed move keeps soundness, and every list of them leads to a state that tells its history: kind by kind, and
+-- then move by move.
 use Rattle.std.proofs.Common.{◌≡◌, ℕ, ◌+◌, ◌-◌, ◌/◌, ◌%◌, ◌≤◌, Bool, true, false, ◌==◌, List, [], ◌∷◌, refl, sym, subst, arith}
 use Rattle.gate_word.specs.Words.{round_in}
 use Rattle.part_geometry.specs.Shape.{Shape, IsShape}
@@ -34,6 +35,7 @@ none_upto : (sort : ℕ → Entry) (b : ℕ) → b ≤ 1 → Upto [] sort b
 none_upto sort b low k = ((λ has. absurd has), (λ x. let y = x.0 in let z = x.1 in absurd (omega arith)))
 
 module _ {A : Type 0} where
+  -- whichever the move is, the state after it is sound
   pub keeps : (g : Shape) → IsShape g → (s : Core A) (m : Move A) → Sound g s → IsAllowed g s m → Sound g (after g s m)
   keeps g v s (StorePiece k i) r a = stores_piece_keeps g v s k i r a
   keeps g v s (StoreClaim k c) r a = stores_claim_keeps g v s k c r a
@@ -90,6 +92,7 @@ module _ {A : Type 0} where
   quiet : (g : Shape) (s : Core A) (h : List Entry) → Tells g s h → Adds g s h []
   quiet g s h t = record { tells = t; order = λ o. o }
 
+  -- whichever the move is, its entries follow the history and the state after it tells them
   pub adds : (g : Shape) → IsShape g → (s : Core A) (m : Move A) (h : List Entry) → Sound g s → IsAllowed g s m → Tells g s h → Adds g (after g s m) h (entries g s m)
   adds g v s (StorePiece k i) h r a t = stores_piece_adds g v s k i h r a t
   adds g v s (StoreClaim k c) h r a t = stores_claim_adds g v s k c h r a t
@@ -108,6 +111,7 @@ module _ {A : Type 0} where
   adds g v s (Rise n w more) h r a t = quiet g _ h t
   adds g v s (Join n) h r a t = quiet g _ h (joins_tells g s n h t)
 
+  -- the first state tells of nothing
   pub first_tells : (g : Shape) → IsShape g → (s : Core A) → s ≡ first_state g → Tells g s []
   first_tells g v s e = subst (λ (z : Core A). Tells g z []) (sym e) (
       let words = some_claims g v in let words' = some_takes g v in let release = zero_word.round in
@@ -125,10 +129,14 @@ module _ {A : Type 0} where
 
   -- a list of moves from the first state
   pub record Reaches (g : Shape) (s : Core A) (h : List Entry) : Type 0 where
+    -- the state that they lead to is sound
     pub sound : Sound g s
+    -- it tells the history
     pub tells : Tells g s h
+    -- whose entries each follow what came before
     pub order : IsInOrder g h
 
+  -- each list of allowed moves leads to such a state, move by move
   pub reaches : (g : Shape) → IsShape g → (ms : List (Move A)) (s : Core A) (h : List Entry) → Happened g ms s h → Reaches g s h
   reaches g v [] s h o = subst (λ (z : Core A × List Entry). Reaches g z.0 z.1) (λ i. (sym o.0 i, sym o.1 i))
       (record { sound = starts_sound g v; tells = first_tells g v (first_state g) refl; order = tt })

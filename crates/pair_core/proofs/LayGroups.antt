@@ -1,4 +1,5 @@
--- What is left of the groups when a partition is laid into a piece, whose word then has its bit.
+-- What is left of the groups when a partition is laid into a piece, whose word then has its bit. A group reads of the
+-- piece words what `Fills` says; the claim owes one piece less, and the slots that its partition has there come home.
 use Rattle.std.proofs.Common.{◌≡◌, ◌≢◌, ◌⊎◌, inl, inr, ⊎_elim, ℕ, ◌-◌, ◌/◌, ◌%◌, ◌^◌, ◌<◌, ◌≤◌, Bool, true, false, ◌==◌, ◌&&◌, List, ◌∷◌, Option, Some, refl, sym, ap, ◌∙◌, subst, arith, bit_or}
 use Rattle.std.specs.Prelude.{◌↔◌}
 use Rattle.std.proofs.lemmas.Bool.{cases_eq, cases_Bool, eqb-true, eq-eqb, and_parts, and_from, false≢true}
@@ -24,11 +25,16 @@ use Rattle.pair_core.proofs.LayLists.{has_here, has_else, on_from, goes_on}
 
 -- the piece words h are the words f but for the bit of partition p in piece i at place d, which h has
 pub record Fills (g : Shape) (f h : ℕ → ℕ → ℕ) (d i p : ℕ) : Type 0 where
+  -- each word has the round that it had
   pub round : (e j : ℕ) → round_in (h e j) ≡ round_in (f e j)
+  -- no piece has less than before
   pub more : (e j q : ℕ) → laid g (f e j) j q ≤ laid g (h e j) j q
+  -- piece i at place d has p
   pub here : laid g (h d i) i p ≡ 1
+  -- and any other piece or partition is as it was
   pub rest : (e j q : ℕ) → j < pieces g → Touches g j q → ¬ ((e ≡ d) × (j ≡ i) × (q ≡ p)) → laid g (h e j) j q ≡ laid g (f e j) j q
 
+-- the or of p's bit to the word makes such words
 pub fills : (g : Shape) → IsShape g → (f : ℕ → ℕ → ℕ) (d i p : ℕ) → i < pieces g → Touches g i p → Fills g f (put_pair f d i (bit_or (f d i) (2 ^ (p - first_part g i)))) d i p
 fills g v f d i p inside t =
     let b : ℕ = p - first_part g i in
@@ -44,9 +50,11 @@ fills g v f d i p inside t =
           (λ _ _ _ _ _. refl) e j refl refl;
     }
 
+-- what a piece had it has
 pub fills_one : (g : Shape) (f h : ℕ → ℕ → ℕ) (d i p : ℕ) → Fills g f h d i p → (e j q : ℕ) → laid g (f e j) j q ≡ 1 → laid g (h e j) j q ≡ 1
 fills_one g f h d i p a e j q one = let m = a.more e j q in let small = bit_lt (h e j) (q - first_part g j) in omega arith
 
+-- a piece that was full is full
 pub fills_full : (g : Shape) (f h : ℕ → ℕ → ℕ) (d i p : ℕ) → Fills g f h d i p → (e j k : ℕ) → IsFull g (f e j) k j → IsFull g (h e j) k j
 fills_full g f h d i p a e j k full = record { round = a.round e j ∙ full.round; all = λ q t. fills_one g f h d i p a e j q (full.all q t) }
 
@@ -64,6 +72,7 @@ fills_was g f h d i p a e j q low t one = elim (cases_eq e d) [
   | inr other ↦ inr (sym (a.rest e j q low t (λ all. other all.0)) ∙ one)
 ]
 
+-- the group of the pieces holds, since p is claimed
 pub pieces_fill : (g : Shape) (claim : ℕ → ℕ) (f h : ℕ → ℕ → ℕ) (send : SendSide) (i p : ℕ) → Fills g f h (send.round % g.depth) i p → send.pieces ≡ pieces g → IsClaimed claim send p
     → Pieces g claim f send → Pieces g claim h send
 pieces_fill g claim f h send i p a all claimed r =
@@ -79,10 +88,12 @@ pieces_fill g claim f h send i p a all claimed r =
           (fills_was g f h d i p a d j q (omega arith) t one);
     }
 
+-- what is taken is still full in its round
 pub arrived_fill : (g : Shape) (take : ℕ → ℕ) (f h : ℕ → ℕ → ℕ) (recv : RecvSide) (d i p : ℕ) → Fills g f h d i p → Arrived g take f recv → Arrived g take h recv
 arrived_fill g take f h recv d i p a r q j inside low active taken t =
     fills_full g f h d i p a (recv.round % g.depth) j recv.round (r q j inside low active taken t)
 
+-- the group of the takes holds
 pub takes_fill : {A : Type 0} (g : Shape) (take : ℕ → ℕ) (f h : ℕ → ℕ → ℕ) (takes : List (Mark A)) (d i p : ℕ) → Fills g f h d i p → Takes g take f takes → Takes g take h takes
 takes_fill {A} g take f h takes d i p a r = record {
   own = r.own;
@@ -93,12 +104,18 @@ takes_fill {A} g take f h takes d i p a r = record {
 
 -- the claim that has its piece laid pends in the seat n, and lacks the piece
 pub record IsLaying (g : Shape) (claim : ℕ → ℕ) (f : ℕ → ℕ → ℕ) (send : SendSide) (life : ℕ → Life) (who : ℕ → ℕ → ℕ) (n i : ℕ) (x : Pending) : Type 0 where
+  -- the claim pends at n
   pub pends : IsPending g claim f send life who n x
+  -- the piece is one of the pair
   pub inside : i < pieces g
+  -- and touches the claim's partition
   pub touches : Touches g i x.partition
+  -- the claim hasn't laid it so far
   pub missing : has x.laid i ≡ false
+  -- so its word lacks the partition
   pub unlaid : laid g (f (send.round % g.depth) i) i x.partition ≡ 0
 
+-- each pending claim that hasn't laid a piece of its partition is so
 pub laying_of : (g : Shape) (claim : ℕ → ℕ) (f : ℕ → ℕ → ℕ) (send : SendSide) (life : ℕ → Life) (who : ℕ → ℕ → ℕ) (n i : ℕ) (x : Pending) → IsPending g claim f send life who n x
     → i < pieces g → Touches g i x.partition → has x.laid i ≡ false → IsLaying g claim f send life who n i x
 laying_of g claim f send life who n i x pends inside t missing = record {
@@ -113,6 +130,7 @@ laying_of g claim f send life who n i x pends inside t missing = record {
       ];
 }
 
+-- the group of the claims holds where what is left of the claim pends at n
 pub claims_fill : (g : Shape) → IsShape g → (claim : ℕ → ℕ) (f h : ℕ → ℕ → ℕ) (send : SendSide) (life : ℕ → Life) (pending : ℕ → Option Pending) (who : ℕ → ℕ → ℕ) (n i : ℕ) (x : Pending)
     → Fills g f h (send.round % g.depth) i x.partition → IsLaying g claim f send life who n i x → pending n ≡ Some x
     → Claims g claim f send life pending who → Claims g claim h send life (put pending n (left_of g i x)) who
@@ -183,6 +201,7 @@ claims_fill g v claim f h send life pending who n i x a lays at r = record {
       some = some;
     }
 
+-- the group of the slots holds where those that p has in the piece came home
 pub slots_fill : (g : Shape) → IsShape g → (claim take ret : ℕ → ℕ) (f h : ℕ → ℕ → ℕ) (send : SendSide) (recv : RecvSide) (slot : ℕ → ℕ → Slot) (who : ℕ → ℕ → ℕ) (i p k : ℕ)
     → Fills g f h (send.round % g.depth) i p → i < pieces g → laid g (f (send.round % g.depth) i) i p ≡ 0 → k ≡ send.round → round_in (f (send.round % g.depth) i) ≡ send.round → Arrived g take f recv
     → Slots g claim take ret f send recv slot who

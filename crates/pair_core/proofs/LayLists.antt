@@ -1,4 +1,5 @@
--- What is left of a claim when one of its pieces is laid.
+-- What is left of a claim when one of its pieces is laid: the test of the list of its pieces fails where one that it
+-- touches isn't laid, and only there.
 use Rattle.std.proofs.Common.{◌≡◌, ◌≢◌, inl, inr, ℕ, zero, suc, ◌+◌, ◌<◌, ◌≤◌, Bool, true, false, cond, ◌&&◌, ◌||◌, List, ◌∷◌, Some, None, refl, sym, ap, subst, arith}
 use Rattle.std.specs.Prelude.{if◌then◌else◌, filter, nat_le, nat_lt}
 use Rattle.std.specs.List.{range_with_len, list_all}
@@ -11,9 +12,11 @@ use Rattle.pair_core.specs.Steps.{left_of}
 use Rattle.pair_core.specs.declared.view.Pending.{Pending}
 use Rattle.pair_core.proofs.Cut.{touch_range, range_touch}
 
+-- a list has the number before it
 pub has_here : (i : ℕ) (xs : List ℕ) → has (i ∷ xs) i ≡ true
 has_here i xs = ap (λ (b : Bool). b || has xs i) (eq-eqb i i refl)
 
+-- and any other one where the rest of it has
 pub has_else : (i j : ℕ) (xs : List ℕ) → j ≢ i → has (i ∷ xs) j ≡ has xs j
 has_else i j xs other = ap (λ (b : Bool). b || has xs j) (ne_eqb i j (λ e. other (sym e)))
 
@@ -76,9 +79,12 @@ goes_on g v i x j inside t e =
 
 -- where the claim goes on a piece is left
 pub record GoesOn (g : Shape) (i : ℕ) (x y : Pending) : Type 0 where
+  -- the claim has the piece laid too
   pub is : y ≡ record x { laid = i ∷ x.laid }
+  -- and lacks another that it touches
   pub some : (j : ℕ) × (j < pieces g) × Touches g j x.partition × (has (i ∷ x.laid) j ≡ false)
 
+-- where something is left of a claim it goes on so
 pub on_from : (g : Shape) → IsShape g → (i : ℕ) (x y : Pending) → left_of g i x ≡ Some y → GoesOn g i x y
 on_from g v i x y e = elim (cases_Bool (list_all (has (i ∷ x.laid)) (pieces_over g x.partition))) [
   | inl all ↦

@@ -1,4 +1,5 @@
--- Laying a partition into a piece keeps soundness, and what is so where a claim pends.
+-- Laying a partition into a piece keeps soundness, and what is so where a claim pends. The step goes group by group, by
+-- the lemmas of LayGroups.
 use Rattle.std.proofs.Common.{◌≡◌, inl, inr, ℕ, ◌-◌, ◌/◌, ◌%◌, ◌^◌, ◌<◌, ◌≤◌, false, ◌==◌, ◌&&◌, Option, Some, sym, ap, ◌∙◌, subst, arith, bit_or}
 use Rattle.std.proofs.lemmas.Bool.{cases_eq}
 use Rattle.gate_word.specs.Words.{round_in}
@@ -23,20 +24,34 @@ use Rattle.pair_core.proofs.LayGroups.{Fills, fills, laying_of, pieces_fill, arr
 module _ {A : Type 0} where
   -- the claim x that pends in the seat n is of the sender's round, whose word is open and has its partition
   pub record Pends (g : Shape) (s : Core A) (n : ℕ) (x : Pending) : Type 0 where
+    -- the claim is of the sender's round
     pub round : x.round ≡ s.send.round
+    -- which is from 1 on
     pub some : 1 ≤ s.send.round
+    -- its partition is one of the pair
     pub partition : x.partition < g.send_parts
+    -- no claim word is shut in the round
     pub shut : s.send.shut ≡ 0
+    -- the word of the partition is opened in it
     pub opened : x.partition / 32 < s.send.opened
+    -- that word has the sender's round
     pub claim_round : round_in (s.word (Claim (x.partition / 32))) ≡ s.send.round
+    -- it is open
     pub claim_open : bit (s.word (Claim (x.partition / 32))) 32 ≡ 0
+    -- and has the partition
     pub claimed : part_bit (λ c. s.word (Claim c)) x.partition ≡ 1
+    -- all piece words are stored for the round
     pub stored : s.send.pieces ≡ pieces g
+    -- and each has it, at the round's place
     pub piece_round : (i : ℕ) → i < pieces g → round_in (s.word (Piece (s.send.round % g.depth) i)) ≡ s.send.round
+    -- the seat is a marker's
     pub marker : IsMarker n
+    -- which has its view
     pub live : s.life n ≡ Live
+    -- and the mark, once
     pub marked : times x.round x.partition (s.marks n) ≡ 1
 
+  -- each pending claim of a sound state is so
   pub pends_now : (g : Shape) → IsShape g → (s : Core A) (n : ℕ) (x : Pending) → Sound g s → s.pending n ≡ Some x → Pends g s n x
   pends_now g v s n x r at =
       let h = r.claims.each n x at in
@@ -132,12 +147,14 @@ module _ {A : Type 0} where
         lives = r.lives;
       }
 
+  -- the same of the step as it is written, since the claim's round is the sender's
   pub laid_keeps : (g : Shape) → IsShape g → (s : Core A) (n i : ℕ) (x : Pending) → Sound g s → s.pending n ≡ Some x → i < pieces g → Touches g i x.partition → has x.laid i ≡ false
       → Sound g (lays_piece g n i x s)
   laid_keeps g v s n i x r at inside t missing =
       let round : x.round ≡ s.send.round = (r.claims.each n x at).round in
       subst (λ (k : ℕ). Sound g (laid_core g n i (k % g.depth) x.round x.partition (left_of g i x) s)) (sym round) (here_keeps g v s n i x r at inside t missing)
 
+  -- and of the move
   pub lays_piece_keeps : (g : Shape) → IsShape g → (s : Core A) (n p i : ℕ) → Sound g s → IsAllowed g s (LayPiece n p i) → Sound g (after g s (LayPiece n p i))
   lays_piece_keeps g v s n p i r ok =
       let x = ok.0 in let may = ok.2 in
@@ -151,6 +168,7 @@ module _ {A : Type 0} where
       subst (λ (z : ℕ). laid g (s.word (Piece (s.send.round % g.depth) i)) i z ≡ 0) may.partition
       (unlaid_lacks g s n x i r ok.1 may.piece (subst (Touches g i) (sym may.partition) may.touches) may.missing)
 
+  -- the slots that the partition has in the piece are out to the marker
   pub lay_out : (g : Shape) (s : Core A) (n p i c : ℕ) → Sound g s → IsAllowed g s (LayPiece n p i) → c < cells g → send_of g c ≡ p → piece_of g c ≡ i
       → s.slot (s.send.round % g.depth) c ≡ Out n
   lay_out g s n p i c r ok inside cell piece =

@@ -1,4 +1,5 @@
--- A load keeps soundness, and so does the first event of a seat.
+-- A load keeps soundness: the word that the seat has seen is the one that is there. Seats 0 and 1 keep what the groups
+-- ask of what they have seen.
 use Rattle.std.proofs.Common.{◌≡◌, ◌≢◌, ℕ, refl, ap, ◌∙◌, arith}
 use Rattle.part_geometry.specs.Shape.{Shape}
 use Rattle.pair_core.specs.Names.{Name, Claim, Take, Return, put, put_word}
@@ -24,6 +25,7 @@ module _ {A : Type 0} where
       (λ z same. ap (λ (y : Name). round_in (s.seen n y)) same ∙ (ap (λ (k : ℕ). round_in (s.seen k (Claim c))) e ∙ r.opened c unshut low)) refl)
       (λ m _ e. ap (λ (k : ℕ). round_in (s.seen k (Claim c))) e ∙ r.opened c unshut low) 0 refl
 
+  -- a load by a seat that isn't blank keeps soundness
   pub loads_keeps : (g : Shape) (s : Core A) (n : ℕ) (x : Name) → s.life n ≢ Blank → Sound g s → Sound g (loads n x s)
   loads_keeps g s n x some r = record {
     who = r.who;

@@ -1,4 +1,5 @@
--- The sentences of the laws, from the order in which entries come.
+-- The sentences of the laws, from the order in which entries come: each entry of a history follows what came before it,
+-- and so each sentence is read off the entry that it speaks of.
 use Rattle.std.proofs.Common.{◌≡◌, ◌≢◌, inl, inr, ⊎_elim, ℕ, suc, ◌+◌, ◌-◌, ◌<◌, ◌≤◌, List, [], ◌∷◌, ◌++◌, refl, ap, subst, arith}
 use Rattle.std.proofs.lemmas.Bool.{cases_lt}
 use Rattle.part_geometry.specs.Shape.{Shape, IsShape}
@@ -31,9 +32,13 @@ lay_marked g (x ∷ h) k p i o has = ⊎_elim
 
 -- the rounds of a sort of entry, and the entries, are 1 to n
 record Counted (mk : ℕ → Entry) (h : List Entry) (ks : List ℕ) : Type 0 where
+  -- the last of them
   pub n : ℕ
+  -- the list has them, the newest first
   pub is : ks ≡ down n
+  -- an entry is of one of them
   pub only : (j : ℕ) → Has h (mk j) → (1 ≤ j) × (j ≤ n)
+  -- and each has an entry
   pub all : (j : ℕ) → 1 ≤ j → j ≤ n → Has h (mk j)
 
 count_other : (mk : ℕ → Entry) (h : List Entry) (ks : List ℕ) (e : Entry) → ((j : ℕ) → e ≢ mk j) → Counted mk h ks → Counted mk (e ∷ h) ks
@@ -83,6 +88,7 @@ releases_counted g (e ∷ h) o = count_other Release h (rounds released h) _ (λ
 in_order : (mk : ℕ → Entry) (h : List Entry) (ks : List ℕ) → Counted mk h ks → AreInOrder ks
 in_order mk h ks c = (c.n, c.is)
 
+-- a history in which each entry follows what came before keeps each sentence
 pub keeps_order : (g : Shape) (h : List Entry) → IsInOrder g h → KeepsOrder g h
 keeps_order g h o = record {
   marks_a_part = λ k p has. had g h (Mark k p) (p < g.send_parts) (λ past f. f.0) o has;
@@ -113,6 +119,7 @@ keeps_order g h o = record {
   open_after_release = λ k deep newer older e. (split_at g h newer older (Open k) o e).0.3 deep;
 }
 
+-- soundness holds at first, through each move, and so always
 pub stays_sound : {A : Type 0} (g : Shape) → IsShape g → StaysSound A g
 stays_sound {A} g v = record {
   first = starts_sound g v;
@@ -120,8 +127,10 @@ stays_sound {A} g v = record {
   always = λ ms s h happened. (reaches g v ms s h happened).sound;
 }
 
+-- each list of moves has a history that keeps the sentences
 pub order_always : {A : Type 0} (g : Shape) → IsShape g → KeepsOrderAlways A g
 order_always {A} g v ms s h happened = keeps_order g h (reaches g v ms s h happened).order
 
+-- the slots that a take takes have its round
 pub takes_its_round : {A : Type 0} (g : Shape) → IsShape g → TakesItsRound A g
 takes_its_round {A} g v s q c x r a inside is = take_home g v s q r a.0 a.1 a.2 a.3 c inside is

@@ -1,9 +1,11 @@
--- Functions with one value changed, and the words of which one was changed.
+-- Functions with one value changed, and the words of which one was changed: what is read is the new value or an old
+-- one.
 use Rattle.std.proofs.Common.{◌≡◌, ◌≢◌, ℕ, refl, sym, subst}
 use mathlib.Core.Logic.{dite}
 use native.Mathlib.Decide.{ℕ_discrete}
 use Rattle.pair_core.specs.Names.{Name, Claim, Release, Take, Return, Piece, pick, put, put_pair, put_word}
 
+-- the value that was changed is the new one
 pub put_here : {X : Type 0} (f : ℕ → X) (n : ℕ) (x : X) → put f n x n ≡ x
 unfolding put
 put_here {X} f n x = go (ℕ_discrete n n)
@@ -12,6 +14,7 @@ put_here {X} f n x = go (ℕ_discrete n n)
     go (yes _) = refl
     go (no o) = absurd (o refl)
 
+-- any other is the old one
 pub put_else : {X : Type 0} (f : ℕ → X) (n : ℕ) (x : X) (m : ℕ) → m ≢ n → put f n x m ≡ f m
 unfolding put
 put_else {X} f n x m other = go (ℕ_discrete m n)
@@ -26,6 +29,7 @@ put_cases {X} f n x P here rest m = dite (ℕ_discrete m n)
     (λ e. subst (λ (k : ℕ). P k (put f n x k)) (sym e) (subst (P n) (sym (put_here f n x)) here))
     (λ o. subst (P m) (sym (put_else f n x m o)) (rest m o))
 
+-- the same of functions of two numbers
 pub put_pair_cases : {X : Type 0} (f : ℕ → ℕ → X) (d i : ℕ) (x : X) (P : ℕ → ℕ → X → Type 0) → P d i x → ((e j : ℕ) → ¬ ((e ≡ d) × (j ≡ i)) → P e j (f e j))
     → (e j : ℕ) → P e j (put_pair f d i x e j)
 unfolding put_pair
@@ -33,17 +37,21 @@ put_pair_cases {X} f d i x P here rest e j = put_cases f d (put (f d) i x) (λ m
     (put_cases (f d) i x (λ n v. P d n v) here (λ n other. rest d n (λ both. other both.1)) j)
     (λ m other. rest m j (λ both. other both.0)) e
 
+-- there too the value that was changed is the new one
 pub put_pair_here : {X : Type 0} (f : ℕ → ℕ → X) (d i : ℕ) (x : X) → put_pair f d i x d i ≡ x
 put_pair_here {X} f d i x = put_pair_cases f d i x (λ e j v. (e ≡ d) → (j ≡ i) → v ≡ x) (λ _ _. refl) (λ e j other a b. absurd (other (a, b))) d i refl refl
 
+-- and any other is the old one
 pub put_pair_else : {X : Type 0} (f : ℕ → ℕ → X) (d i : ℕ) (x : X) (e j : ℕ) → ¬ ((e ≡ d) × (j ≡ i)) → put_pair f d i x e j ≡ f e j
 put_pair_else {X} f d i x e j other = put_pair_cases f d i x (λ m n v. ¬ ((m ≡ d) × (n ≡ i)) → v ≡ f m n) (λ o. absurd (o (refl, refl))) (λ m n _ _. refl) e j other
 
+-- the same of two functions at once that are changed at one number
 pub put_cases_both : {X : Type 0} (f h : ℕ → X) (n : ℕ) (v w : X) (P : ℕ → X → X → Type 0) → P n v w → ((m : ℕ) → P m (f m) (h m)) → (m : ℕ) → P m (put f n v m) (put h n w m)
 put_cases_both {X} f h n v w P here rest m = dite (ℕ_discrete m n)
     (λ e. subst (λ (k : ℕ). P k (put f n v k) (put h n w k)) (sym e) (subst (λ z. P n z (put h n w n)) (sym (put_here f n v)) (subst (P n v) (sym (put_here h n w)) here)))
     (λ o. subst (λ z. P m z (put h n w m)) (sym (put_else f n v m o)) (subst (P m (f m)) (sym (put_else h n w m o)) (rest m)))
 
+-- and of two functions of two numbers
 pub put_pair_cases_both : {X : Type 0} (f h : ℕ → ℕ → X) (d i : ℕ) (v w : X) (P : ℕ → ℕ → X → X → Type 0) → P d i v w → ((e j : ℕ) → P e j (f e j) (h e j))
     → (e j : ℕ) → P e j (put_pair f d i v e j) (put_pair h d i w e j)
 put_pair_cases_both {X} f h d i v w P here rest e j = put_pair_cases f d i v (λ m n z. P m n z (put_pair h d i w m n))
@@ -112,6 +120,7 @@ put_at {X} f n x P m here rest = dite (ℕ_discrete m n)
     (λ e. subst (λ (k : ℕ). P (put f n x k)) (sym e) (subst P (sym (put_here f n x)) (here e)))
     (λ o. subst P (sym (put_else f n x m o)) (rest o))
 
+-- the same of functions of two numbers
 pub put_pair_at : {X : Type 0} (f : ℕ → ℕ → X) (d i : ℕ) (x : X) (P : X → Type 0) (e j : ℕ) → (e ≡ d → j ≡ i → P x) → (¬ ((e ≡ d) × (j ≡ i)) → P (f e j)) → P (put_pair f d i x e j)
 put_pair_at {X} f d i x P e j here rest = dite (ℕ_discrete e d)
     (λ a. dite (ℕ_discrete j i)

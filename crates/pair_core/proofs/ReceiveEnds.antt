@@ -1,4 +1,5 @@
--- Giving a partition back and releasing the round keep soundness.
+-- Giving a partition back and releasing the round keep soundness. A buffer that comes home has no round any more, and a
+-- release asks that none is held.
 use Rattle.std.proofs.Common.{◌≡◌, inl, inr, ℕ, ◌/◌, ◌%◌, ◌^◌, ◌<◌, ◌≤◌, ◌==◌, refl, sym, ap, ◌∙◌, arith, bit_or}
 use Rattle.std.proofs.lemmas.Bool.{cases_eq}
 use Rattle.gate_word.specs.Words.{round_in}
@@ -115,6 +116,7 @@ module _ {A : Type 0} where
       let full = (taken_full g s q r inside active taken i over.1 over.2).round in
       let low = piece_le g (λ c. s.word (Claim c)) (λ d j. s.word (Piece d j)) s.send r.pieces (s.recv.round % g.depth) i (place_lt g.depth s.recv.round v.depth.0 v.depth.1) over.1 in omega arith
 
+  -- giving a partition back keeps soundness
   pub return_part_keeps : (g : Shape) → IsShape g → (s : Core A) (q : ℕ) → Sound g s → IsAllowed g s (ReturnPart q) → Sound g (after g s (ReturnPart q))
   return_part_keeps g v s q r allowed =
       let inside : q < g.recv_parts = allowed.0 in let active = allowed.1 in let taken = allowed.2 in
@@ -141,6 +143,7 @@ module _ {A : Type 0} where
         lives = r.lives;
       }
 
+  -- releasing the round keeps soundness
   pub store_release_keeps : (g : Shape) → IsShape g → (s : Core A) (k : ℕ) → Sound g s → IsAllowed g s (StoreRelease k) → Sound g (after g s (StoreRelease k))
   store_release_keeps g v s k r allowed =
       let active = allowed.1 in let all : s.recv.takes ≡ take_words g = active.0 in let open' : s.recv.released ≡ 0 = active.1 in

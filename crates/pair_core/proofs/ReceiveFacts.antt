@@ -1,4 +1,5 @@
--- Words of 32 partitions each of which one was changed, and what the receive side knows of pieces.
+-- Words of 32 partitions each of which one was changed, and what the receive side knows of pieces: what it has seen
+-- full stays full, since words only grow and the sender stores no later round there before the release.
 use Rattle.std.proofs.Common.{◌≡◌, ◌≢◌, inl, inr, ℕ, ◌+◌, ◌-◌, ◌/◌, ◌%◌, ◌^◌, ◌<◌, ◌≤◌, Bool, ◌==◌, refl, sym, ap, ◌∙◌, subst, arith, bit_or}
 use Rattle.std.specs.Prelude.{if◌then◌else◌}
 use Rattle.std.proofs.lemmas.Bool.{cases_lt, cases_eq, eq-eqb, ne_eqb, and_from, and_left, and_right}
@@ -35,16 +36,20 @@ next_same f t w q here = put_cases f t w (λ m z. q / 32 ≡ m → next z (q % 3
 abbrev pub with_part : (ℕ → ℕ) → ℕ → ℕ → ℕ
 with_part f p = put f (p / 32) (bit_or (f (p / 32)) (2 ^ (p % 32)))
 
+-- each word has the round that it had
 pub with_round : (f : ℕ → ℕ) (p t : ℕ) → round_in (with_part f p t) ≡ round_in (f t)
 with_round f p t = put_cases f (p / 32) (bit_or (f (p / 32)) (2 ^ (p % 32))) (λ m z. round_in z ≡ round_in (f m)) (round_or (f (p / 32)) (p % 32) (omega arith)) (λ m _. refl) t
 
+-- p has its bit
 pub with_here : (f : ℕ → ℕ) (p : ℕ) → part_bit (with_part f p) p ≡ 1
 with_here f p = part_cases f (p / 32) (bit_or (f (p / 32)) (2 ^ (p % 32))) p (λ z. z ≡ 1) (λ _. bit_or_here (f (p / 32)) (p % 32)) (λ other. absurd (other refl))
 
+-- any other partition's bit is as it was
 pub with_else : (f : ℕ → ℕ) (p q : ℕ) → q ≢ p → part_bit (with_part f p) q ≡ part_bit f q
 with_else f p q other = part_cases f (p / 32) (bit_or (f (p / 32)) (2 ^ (p % 32))) q (λ z. z ≡ part_bit f q)
     (λ e. bit_or_else (f (p / 32)) (p % 32) (q % 32) (λ same. other (omega arith)) ∙ ap (λ (z : ℕ). bit (f z) (q % 32)) (sym e)) (λ _. refl)
 
+-- and none is lost
 pub with_more : (f : ℕ → ℕ) (p q : ℕ) → part_bit f q ≤ part_bit (with_part f p) q
 with_more f p q = elim (cases_eq q p) [
   | inl e ↦ let small = bit_lt (f (q / 32)) (q % 32) in let h : part_bit (with_part f p) q ≡ 1 = ap (part_bit (with_part f p)) e ∙ with_here f p in omega arith
@@ -83,9 +88,12 @@ piece_round g v claim piece send h k i some inside near low =
 
 -- an active receive side is in the round after the release, and the sender hasn't opened the next round of its place
 pub record InRound (g : Shape) (send : SendSide) (recv : RecvSide) : Type 0 where
+  -- the round is from 1 on
   pub some : 1 ≤ recv.round
+  -- the sender is less than `depth` rounds ahead
   pub near : send.round < recv.round + g.depth
 
+-- a receive side that hasn't released its round is so
 pub in_round : (g : Shape) (released : ℕ) (send : SendSide) (recv : RecvSide) → Progress g released send recv → recv.released ≡ 0 → InRound g send recv
 in_round g released send recv p open' = let a = p.current in let b = p.ahead in record { some = omega arith; near = omega arith }
 
@@ -130,10 +138,12 @@ recv_slots g slot place q x d c P here rest =
 abbrev pub AreFull : Shape → (ℕ → ℕ → ℕ) → RecvSide → ℕ → Type 0
 AreFull g piece recv q = (i : ℕ) → i < pieces g → TouchesRecv g i q → IsFull g (piece (recv.round % g.depth) i) recv.round i
 
+-- the piece of each of its cells is full then
 pub cell_full : (g : Shape) (piece : ℕ → ℕ → ℕ) (recv : RecvSide) (q c : ℕ) → AreFull g piece recv q → c < cells g → recv_of g c ≡ q
     → IsFull g (piece (recv.round % g.depth) (piece_of g c)) recv.round (piece_of g c)
 cell_full g piece recv q c full inside e = full (piece_of g c) (cell_piece g c inside) (subst (TouchesRecv g (piece_of g c)) e (cell_touches_recv g c inside))
 
+-- so no claim is owed it, and its slot isn't lent
 pub not_lent : (g : Shape) (claim : ℕ → ℕ) (piece : ℕ → ℕ → ℕ) (send : SendSide) (recv : RecvSide) (q c : ℕ) → AreFull g piece recv q → c < cells g
     → send.round % g.depth ≡ recv.round % g.depth → recv_of g c ≡ q → ¬ IsLent g claim piece send c
 not_lent g claim piece send recv q c full inside e f lent =

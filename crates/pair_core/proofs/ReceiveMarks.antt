@@ -1,4 +1,5 @@
--- Whose marks are whose, which are there, and what the receive side may conclude of them.
+-- Whose marks are whose, which are there, and what the receive side may conclude of them: soundness names for each
+-- round and partition the one seat that has its mark, and counts the seats that are out.
 use Rattle.std.proofs.Common.{◌≡◌, ◌≢◌, inl, inr, ⊎_elim, ℕ, ◌+◌, ◌/◌, ◌%◌, ◌<◌, ◌≤◌, List, [], ◌∷◌, length, Option, Some, None, refl, sym, ap, ◌∙◌, arith}
 use Rattle.std.proofs.lemmas.Bool.{cases_lt, cases_eq}
 use Rattle.gate_word.specs.Words.{round_in}
@@ -39,6 +40,7 @@ module _ {A : Type 0} where
   pub one_seat : (g : Shape) (s : Core A) → Sound g s → (n m k p : ℕ) → 1 ≤ times k p (s.marks n) → 1 ≤ times k p (s.marks m) → n ≡ m
   one_seat g s r n m k p a b = sym (r.marks.own n k p a).0 ∙ (r.marks.own m k p b).0
 
+  -- no list has a mark twice
   pub mark_once : (g : Shape) (s : Core A) → Sound g s → (n k p : ℕ) → times k p (s.marks n) ≤ 1
   mark_once g s r n k p = elim (cases_lt 0 (times k p (s.marks n))) [
     | inl some ↦ let o = r.marks.own n k p some in let e = r.marks.all k p o.1 o.2 o.3 in
@@ -46,6 +48,7 @@ module _ {A : Type 0} where
     | inr none ↦ omega arith
   ]
 
+  -- and none of the takes is there twice
   pub take_once : (g : Shape) (s : Core A) → Sound g s → (k q : ℕ) → times k q s.takes ≤ 1
   take_once g s r k q = elim (cases_lt 0 (times k q s.takes)) [
     | inl some ↦ let o = r.takes.own k q some in let e = r.takes.all k q o.0 o.1 o.2 in omega arith
@@ -84,9 +87,11 @@ module _ {A : Type 0} where
       let zero' : r.who k p ≡ 0 = ⊎_elim (λ (z : r.who k p ≡ 0). z) (λ (z : IsMarker (r.who k p) × (s.life (r.who k p) ≡ Live)). absurd (none_out g s r none (r.who k p) z.0 z.1)) at in
       ap (λ (z : ℕ). times k p (s.marks z)) (sym zero') ∙ e
 
+  -- then no seat but the send side has a mark
   pub none_elsewhere : (g : Shape) (s : Core A) → Sound g s → s.send.markers ≡ 0 → (n : ℕ) → n ≢ 0 → s.marks n ≡ []
   none_elsewhere g s r none n other = no_marks g s r n other (λ z. none_out g s r none n z.0 z.1)
 
+  -- and no claim pends
   pub none_pend : (g : Shape) (s : Core A) → Sound g s → s.send.markers ≡ 0 → (n : ℕ) → s.pending n ≡ None
   none_pend g s r none n = no_pending g s r n (λ z. none_out g s r none n z.0 z.1)
 
@@ -146,5 +151,6 @@ module _ {A : Type 0} where
   pub seen_taken : (g : Shape) (s : Core A) → Sound g s → (q : ℕ) → q < g.recv_parts → part_bit (λ t. s.seen 1 (Take t)) q ≡ part_bit (λ t. s.word (Take t)) q
   seen_taken g s r q inside = ap (λ (z : ℕ). bit z (q % 32)) (r.owns.takes (q / 32) (take_word g q inside))
 
+  -- the same of the return words
   pub seen_returned : (g : Shape) (s : Core A) → Sound g s → (q : ℕ) → q < g.recv_parts → part_bit (λ t. s.seen 1 (Return t)) q ≡ part_bit (λ t. s.word (Return t)) q
   seen_returned g s r q inside = ap (λ (z : ℕ). bit z (q % 32)) (r.owns.returns (q / 32) (take_word g q inside))

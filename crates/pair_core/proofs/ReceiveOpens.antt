@@ -1,4 +1,5 @@
--- The steps that open a round of the receive side keep soundness.
+-- The steps that open a round of the receive side keep soundness: return words are stored first, then take words, and
+-- until all are stored no partition counts as held.
 use Rattle.std.proofs.Common.{◌≡◌, ◌⊎◌, inl, inr, ℕ, ◌+◌, ◌/◌, ◌%◌, ◌<◌, ◌≤◌, List, refl, sym, ap, ◌∙◌, arith}
 use Rattle.std.proofs.lemmas.Bool.{cases_lt}
 use Rattle.gate_word.specs.Words.{round_in}
@@ -117,6 +118,7 @@ owns_return g seen word t w o = record {
   returns = put_cases_both (λ j. seen (Return j)) (λ j. word (Return j)) t w w (λ j a b. j < take_words g → a ≡ b) (λ _. refl) o.returns;
 }
 
+-- the same of a take word
 pub owns_take : (g : Shape) (seen word : Name → ℕ) (t w : ℕ) → Owns g (λ j. word (Take j)) (λ j. word (Return j)) seen
     → Owns g (λ j. put_word (Take t) w word (Take j)) (λ j. word (Return j)) (put_word (Take t) w seen)
 owns_take g seen word t w o = record {
@@ -206,6 +208,7 @@ module _ {A : Type 0} where
       let c' = b.past t (omega arith) small in let d = b.returned q inside (omega arith) in
       let d' : bit (s.word (Return t)) (q % 32) ≡ 1 = ap (λ (z : ℕ). bit (s.word (Return z)) (q % 32)) (sym e) ∙ d in omega arith)
 
+  -- storing a return word keeps soundness
   pub stores_return_keeps : (g : Shape) → IsShape g → (s : Core A) (k t : ℕ) → Sound g s → IsAllowed g s (StoreReturn k t) → Sound g (after g s (StoreReturn k t))
   stores_return_keeps g v s k t r allowed =
       let small : t < take_words g = allowed.0 in let some = some_takes g v in
@@ -233,6 +236,7 @@ module _ {A : Type 0} where
         lives = r.lives;
       }
 
+  -- storing a take word keeps soundness
   pub stores_take_keeps : (g : Shape) → IsShape g → (s : Core A) (k t : ℕ) → Sound g s → IsAllowed g s (StoreTake k t) → Sound g (after g s (StoreTake k t))
   stores_take_keeps g v s k t r allowed =
       let small : t < take_words g = allowed.0 in let all : s.recv.returns ≡ take_words g = allowed.2 in let at : t ≡ s.recv.takes = allowed.3 in

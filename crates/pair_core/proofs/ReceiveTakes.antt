@@ -1,4 +1,5 @@
--- A take keeps soundness.
+-- A take keeps soundness: the pieces over the partition are full, so its slots are home with the receiver's round, and
+-- they are held from then on.
 use Rattle.std.proofs.Common.{◌≡◌, ◌⊎◌, inl, inr, ℕ, ◌+◌, ◌/◌, ◌%◌, ◌^◌, ◌<◌, ◌≤◌, Bool, false, ◌==◌, List, ◌∷◌, refl, sym, ap, ◌∙◌, subst, arith, bit_or}
 use Rattle.std.specs.Prelude.{if◌then◌else◌}
 use Rattle.std.proofs.lemmas.Bool.{cases_lt, cases_eq, eq-eqb, ne_eqb, and_from, and_left, and_right}
@@ -27,6 +28,7 @@ module _ {A : Type 0} where
   pub times_new : (k p : ℕ) (a : A) (ms : List (Mark A)) → times k p (mark k p a ∷ ms) ≡ 1 + times k p ms
   times_new k p a ms = ap (λ (b : Bool). (if b then 1 else 0) + times k p ms) (and_from (k == k) (p == p) (eq-eqb k k refl) (eq-eqb p p refl))
 
+  -- for any other round or partition it is as often as before
   pub times_other : (k p j q : ℕ) (a : A) (ms : List (Mark A)) → ¬ ((k ≡ j) × (p ≡ q)) → times k p (mark j q a ∷ ms) ≡ times k p ms
   times_other k p j q a ms other =
       let add : Bool → ℕ = λ b. (if b then 1 else 0) + times k p ms in
@@ -35,6 +37,7 @@ module _ {A : Type 0} where
         | inr o ↦ and_left (j == k) (q == p) (ne_eqb j k o)
       ] in ap add none ∙ omega arith
 
+  -- a mark that is there is the new one, or was there
   pub times_cases : (k p j q : ℕ) (a : A) (ms : List (Mark A)) → 1 ≤ times k p (mark j q a ∷ ms) → ((k ≡ j) × (p ≡ q)) ⊎ (1 ≤ times k p ms)
   times_cases k p j q a ms some = elim (cases_eq k j) [
     | inl e ↦ elim (cases_eq p q) [
@@ -170,6 +173,7 @@ module _ {A : Type 0} where
       let same = r.slots.tied d c h.0 (place_lt g.depth s.recv.round v.depth.0 v.depth.1) small h.1 kept.0 in
       h.1 ∙ ap (λ (z : ℕ). Home z) (same ∙ kept.1)
 
+  -- the move keeps soundness
   pub take_part_keeps : (g : Shape) → IsShape g → (s : Core A) (q : ℕ) (a : A) → Sound g s → IsAllowed g s (TakePart q a) → Sound g (after g s (TakePart q a))
   take_part_keeps g v s q a r allowed =
       let inside : q < g.recv_parts = allowed.0 in let active = allowed.1 in let lacks = allowed.2 in

@@ -1,4 +1,4 @@
--- Rounds and their places, at a depth from 1 to 4.
+-- Rounds and their places, at a depth from 1 to 4: the facts of remainders are shown at each of the four depths.
 use Rattle.std.proofs.Common.{◌≡◌, ◌≢◌, inl, inr, ℕ, zero, suc, ◌+◌, ◌-◌, ◌%◌, ◌<◌, ◌≤◌, Bool, refl, sym, ◌∙◌, subst, arith}
 use Rattle.std.specs.Prelude.{if◌then◌else◌}
 use Rattle.std.proofs.lemmas.Bool.{cases_lt, cases_eq, eq-eqb, ne_eqb}
@@ -22,9 +22,11 @@ pub places_apart : (depth a b : ℕ) → 1 ≤ depth → depth ≤ 4 → a < b �
 places_apart depth a b low high less near = each_depth depth (λ n. b < a + n → a % n ≢ b % n) low high
     (λ h e. omega arith) (λ h e. omega arith) (λ h e. omega arith) (λ h e. omega arith) near
 
+-- a round is the last one at its own place
 pub last_here : (depth k : ℕ) → last_round depth (suc k) (suc k % depth) ≡ suc k
 last_here depth k = rw (eq-eqb (suc k % depth) (suc k % depth) refl) refl
 
+-- at any other place the next round changes nothing
 pub last_step : (depth k d : ℕ) → d ≢ suc k % depth → last_round depth (suc k) d ≡ last_round depth k d
 last_step depth k d other = rw (ne_eqb (suc k % depth) d (λ e. other (sym e))) refl
 

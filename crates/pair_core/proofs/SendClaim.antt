@@ -1,4 +1,5 @@
--- Storing and shutting a claim word keep soundness.
+-- Storing and shutting a claim word keep soundness: the words are stored and shut in order, so each group is looked at
+-- for those before the word, the word itself and those behind it.
 use Rattle.std.proofs.Common.{◌≡◌, inl, inr, ℕ, ◌+◌, ◌/◌, ◌%◌, ◌^◌, ◌<◌, true≢false, List, Option, refl, sym, ap, ◌∙◌, arith, bit_or}
 use Rattle.std.proofs.lemmas.Bool.{cases_lt}
 use Rattle.gate_word.specs.Words.{round_in}
@@ -110,6 +111,7 @@ slots_opens g claim take ret piece send recv slot who c w is clean h = record {
 }
 
 module _ {A : Type 0} where
+  -- storing a claim word keeps soundness
   pub stores_claim_keeps : (g : Shape) → IsShape g → (s : Core A) (k c : ℕ) → Sound g s → IsAllowed g s (StoreClaim k c) → Sound g (after g s (StoreClaim k c))
   stores_claim_keeps g v s k c r a =
       let claim : ℕ → ℕ = λ n. s.word (Claim n) in let take : ℕ → ℕ = λ t. s.word (Take t) in let ret : ℕ → ℕ = λ t. s.word (Return t) in
@@ -180,6 +182,7 @@ gates_shuts g claim send c w is whole inside round bit32 all h = record {
 }
 
 module _ {A : Type 0} where
+  -- shutting a claim word keeps soundness
   pub shuts_claim_keeps : (g : Shape) → IsShape g → (s : Core A) (c : ℕ) → Sound g s → IsAllowed g s (ShutClaim c) → Sound g (after g s (ShutClaim c))
   shuts_claim_keeps g v s c r a =
       let claim : ℕ → ℕ = λ n. s.word (Claim n) in let take : ℕ → ℕ = λ t. s.word (Take t) in let ret : ℕ → ℕ = λ t. s.word (Return t) in

@@ -1,4 +1,5 @@
--- What a sound state says of the send side in each of its modes.
+-- What a sound state says of the send side in each of its modes. What a store of a piece word finds is the same for the
+-- first piece of a round and for each further one.
 use Rattle.std.proofs.Common.{◌≡◌, ◌≢◌, inl, inr, ℕ, zero, suc, ◌+◌, ◌-◌, ◌/◌, ◌%◌, ◌<◌, ◌≤◌, refl, sym, ap, ◌∙◌, subst, arith}
 use Rattle.std.proofs.lemmas.Bool.{cases_eq, cases_lt}
 use Rattle.gate_word.specs.Words.{round_in}
@@ -18,6 +19,7 @@ use Rattle.pair_core.proofs.Words.{bit_lt, later_round, later_bit}
 use Rattle.pair_core.proofs.Rounds.{place_lt, last_here, last_step, last_le, last_oldest}
 use Rattle.pair_core.proofs.Cut.{some_claims, bit_small, claim_word}
 
+-- a seat that has a view didn't give it up
 pub live_unspent : (x : Life) → x ≡ Live → x ≢ Spent
 live_unspent x e f = absurd (cc)
 
@@ -54,16 +56,27 @@ round_le g claim piece send r d i place inside = elim (cases_eq d (send.round % 
 
 -- What the piece word that is stored next, piece i of round k, finds.
 pub record IsNext (g : Shape) (claim : ℕ → ℕ) (piece : ℕ → ℕ → ℕ) (send : SendSide) (released k i : ℕ) : Type 0 where
+  -- the round is from 1 on
   pub some : 1 ≤ k
+  -- it is at most `depth` above the released one
   pub room : k ≤ released + g.depth
+  -- and not below it
   pub behind : released ≤ k
+  -- no partition counts as claimed in the sender's round
   pub unclaimed : (p : ℕ) → ¬ IsClaimed claim send p
+  -- the piece's word has the round `depth` before, or 0
   pub older : round_in (piece (k % g.depth) i) ≡ k - g.depth
+  -- each claim word has the round before, and is shut
   pub past : (c : ℕ) → c < claim_words g → (round_in (claim c) + 1 ≡ k) × (bit (claim c) 32 ≡ 1)
+  -- and has each of its partitions
   pub all : (p : ℕ) → p < g.send_parts → part_bit claim p ≡ 1
+  -- at the other places each piece is full in its last round
   pub other : (d j : ℕ) → d < g.depth → j < pieces g → d ≢ k % g.depth → IsFull g (piece d j) (last_round g.depth k d) j
+  -- the pieces behind this one are full in the round `depth` before, or 0
   pub waiting : (j : ℕ) → i + 1 ≤ j → j < pieces g → IsFull g (piece (k % g.depth) j) (k - g.depth) j
+  -- the pieces before it are stored for the round
   pub current : (j : ℕ) → j < i → round_in (piece (k % g.depth) j) ≡ k
+  -- and have no partition so far
   pub empty : (j p : ℕ) → j < i → Touches g j p → laid g (piece (k % g.depth) j) j p ≡ 0
 
 -- the first piece of the next round

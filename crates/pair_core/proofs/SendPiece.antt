@@ -1,4 +1,4 @@
--- Storing a piece word keeps soundness.
+-- Storing a piece word keeps soundness: the word that is stored over is of the round `depth` before, which is released.
 use Rattle.std.proofs.Common.{◌≡◌, ◌≢◌, ⊎_elim, ℕ, ◌+◌, ◌-◌, ◌/◌, ◌%◌, ◌<◌, List, Option, refl, sym, ap, subst, arith}
 use Rattle.gate_word.specs.Words.{round_in}
 use Rattle.part_geometry.specs.Shape.{Shape, IsShape}
@@ -149,6 +149,7 @@ module _ {A : Type 0} where
         lives = r.lives;
       }
 
+  -- the move keeps soundness
   pub stores_piece_keeps : (g : Shape) → IsShape g → (s : Core A) (k i : ℕ) → Sound g s → IsAllowed g s (StorePiece k i) → Sound g (after g s (StorePiece k i))
   stores_piece_keeps g v s k i r a =
       let claim : ℕ → ℕ = λ c. s.word (Claim c) in let piece : ℕ → ℕ → ℕ = λ d j. s.word (Piece d j) in let released : ℕ = round_in (s.word Release) in

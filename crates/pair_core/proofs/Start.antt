@@ -1,4 +1,4 @@
--- The first state is sound.
+-- The first state is sound: round 0 counts as sent, taken, given back and released, and the masks have the bits for it.
 use Rattle.std.proofs.Common.{◌≡◌, ◌≢◌, inl, inr, ℕ, ◌+◌, ◌-◌, ◌*◌, ◌/◌, ◌%◌, ◌^◌, ◌<◌, ◌≤◌, min, Bool, true, false, [], refl, ap, ◌∙◌, arith}
 use Rattle.std.specs.Prelude.{nat_lt, if◌then◌else◌}
 use Rattle.std.proofs.lemmas.Bool.{cases_eq, cases_lt, lt-ltb, le-ltb}
@@ -40,12 +40,14 @@ mask_none s n j h high small = has_bit _ 0 (2 ^ n - 1) s (masked s n h) j small 
 few : (parts c : ℕ) → min 32 (parts - 32 * c) ≤ 32
 few parts c = omega arith
 
+-- a partition of the pair has its bit in the mask of its word
 pub part_there : (s : Bool) (parts p : ℕ) → p < parts → bit (word_of 0 s (part_mask parts (p / 32))) (p % 32) ≡ 1
 part_there s parts p h = mask_bit s (min 32 (parts - 32 * (p / 32))) (p % 32) (few parts (p / 32)) (omega arith)
 
 part_absent : (s : Bool) (parts c j : ℕ) → ¬ (32 * c + j < parts) → j < 32 → bit (word_of 0 s (part_mask parts c)) j ≡ 0
 part_absent s parts c j h small = mask_none s (min 32 (parts - 32 * c)) j (few parts c) (omega arith) small
 
+-- a word of a mask is of round 0
 pub part_round : (s : Bool) (parts c : ℕ) → round_in (word_of 0 s (part_mask parts c)) ≡ 0
 part_round s parts c = (masked s (min 32 (parts - 32 * c)) (few parts c)).round
 
@@ -112,6 +114,7 @@ low_seat n h = rw (lt-ltb n 2 h) refl
 high_seat : (n : ℕ) → 2 ≤ n → (if nat_lt n 2 then Live else Blank) ≢ Live
 high_seat n h e = let f : (if nat_lt n 2 then Live else Blank) ≡ Blank = rw (le-ltb n 2 h) refl in absurd (cc)
 
+-- so each group holds, with no seat out and no mark
 pub starts_sound : {A : Type 0} (g : Shape) → IsShape g → Sound g (first_state {A = A} g)
 starts_sound {A} g v =
     let words = some_claims g v in let words' = some_takes g v in let some = some_pieces g v in

@@ -1,4 +1,5 @@
--- A seat that stands behind the others from now on.
+-- A seat that stands behind the others from now on: it is fresh, and so has the view that its blank seat had in the
+-- core.
 use Rattle.std.proofs.Common.{◌≡◌, ◌≢◌, ℕ, zero, suc, ◌+◌, ◌%◌, ◌^◌, ◌<◌, Bool, true, false, ◌==◌, List, [], ◌∷◌, ◌++◌, length, get_or, Some, None, refl, sym, ap, ◌∙◌, subst, arith}
 use Rattle.std.specs.Prelude.{slice_get}
 use Rattle.std.proofs.lemmas.List.{length_push, get_or_append_left, get_or_push, get_or-replicate, length-replicate}
@@ -27,13 +28,16 @@ push_get {X} [] x P here rest (suc j) y is = let e : None ≡ Some y = is in cc
 push_get {X} (w ∷ xs) x P here rest zero y is = rest 0 y is
 push_get {X} (w ∷ xs) x P here rest (suc j) y is = push_get xs x (λ k z. P (suc k) z) here (λ k z was. rest (suc k) z was) j y is
 
+-- the new element stands behind the others
 pub get_pushed : {X : Type 0} (xs : List X) (x : X) (n : ℕ) → n ≡ length xs → slice_get (xs ++ x ∷ []) n ≡ Some x
 get_pushed {X} xs x n is = slice_get-get_or (xs ++ x ∷ []) n x (let l = length_push xs x in omega arith) ∙ ap Some (get_or_push xs x x n (sym is))
 
+-- which stay where they were
 pub get_kept : {X : Type 0} (xs : List X) (x : X) (j : ℕ) (y : X) → slice_get xs j ≡ Some y → slice_get (xs ++ x ∷ []) j ≡ Some y
 get_kept {X} xs x j y is = let low = slice_get_within xs j y is in
     slice_get-get_or (xs ++ x ∷ []) j y (let l = length_push xs x in omega arith) ∙ ap Some (get_or_append_left xs (x ∷ []) y j low ∙ get_or_from_slice_get xs j y y is)
 
+-- what is kept is whole with a fresh seat more, that one of the sides counts as out
 pub kept_push : (g : Shape) (words : List ℕ) (slots : List Spot) (send send' : SendSide) (recv recv' : RecvSide) (seats : List Seat) (v : Seat)
     → IsKept g words slots send recv seats → send'.round ≡ send.round → recv'.round ≡ recv.round → send'.markers + recv'.watchers ≡ send.markers + recv.watchers + 1
     → ((at : ℕ) (w : Seat) → slice_get seats at ≡ Some w → w.seat ≢ v.seat) → IsFresh g v → v.seat < 2 ^ 32 → IsKept g words slots send' recv' (seats ++ v ∷ [])
@@ -90,6 +94,7 @@ lives_else n s t life seen looks pending marks m other = record {
   marks = ap (λ f. f m) marks;
 }
 
+-- a fresh marker behind the others is kept, and so what is kept shows the core that it entered
 pub marker_push : (g : Shape) (words : List ℕ) (slots : List Spot) (send : SendSide) (recv : RecvSide) (seats : List Seat) (takes : List (Mark Plain)) (v : Seat) (s : Core Plain)
     → Stands g words slots send recv seats takes s → ((at : ℕ) (w : Seat) → slice_get seats at ≡ Some w → w.seat ≢ v.seat) → IsFresh g v → (v.seat % 2 == 0) ≡ true
     → Stands g words slots (marker_more send) recv (seats ++ v ∷ []) takes (enters v.seat s)
@@ -108,6 +113,7 @@ marker_push g words slots send recv seats takes v s shows none fresh even =
       takes_are = shows.takes_are;
     })
 
+-- the same of a watcher
 pub watcher_push : (g : Shape) (words : List ℕ) (slots : List Spot) (send : SendSide) (recv : RecvSide) (seats : List Seat) (takes : List (Mark Plain)) (v : Seat) (s : Core Plain)
     → Stands g words slots send recv seats takes s → ((at : ℕ) (w : Seat) → slice_get seats at ≡ Some w → w.seat ≢ v.seat) → IsFresh g v → (v.seat % 2 == 0) ≡ false
     → Stands g words slots send (watcher_more recv) (seats ++ v ∷ []) takes (enters v.seat s)
@@ -132,9 +138,11 @@ entered_live n s live spent =
     let same : enters n s ≡ s = ap (λ (l : Life). entered l n s) spent in
     let e : Spent ≡ Live = sym spent ∙ (sym (ap (λ (z : Core Plain). z.life n) same) ∙ live) in cc
 
+-- the seat at a place has a view
 pub view_live : (g : Shape) (words : List ℕ) (slots : List Spot) (send : SendSide) (recv : RecvSide) (seats : List Seat) (takes : List (Mark Plain)) (s : Core Plain) (at n : ℕ)
     → Stands g words slots send recv seats takes s → IsAt seats at n → s.life n ≡ Live
 view_live g words slots send recv seats takes s at n shows there = ap s.life (sym there.2) ∙ (shows.seats_are at there.0 there.1).live
 
+-- the place of a seat is below the length of the list
 pub at_low : (seats : List Seat) (at n : ℕ) → IsAt seats at n → at < length seats
 at_low seats at n there = slice_get_within seats at there.0 there.1

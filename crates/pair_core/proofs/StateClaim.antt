@@ -1,4 +1,5 @@
--- A claim that was won, and one that was lost.
+-- A claim that was won, and one that was lost, as the code makes them: it reads the round, the place and the words
+-- once, and what it writes by them is what the claim writes.
 use Rattle.std.proofs.Common.{◌≡◌, ◌≢◌, ◌∙◌, ℕ, ◌/◌, ◌%◌, ◌^◌, ◌==◌, List, [], ◌∷◌, Some, bit_or, sym, ap, subst}
 use Rattle.std.proofs.lemmas.Bool.{cond-true, cond-false, eq-eqb, ne_eqb}
 use Rattle.part_geometry.specs.Shape.{Shape}
@@ -9,6 +10,7 @@ use Rattle.pair_core.specs.Steps.{wrote, mark, put_slots, claims, loads, tries_c
 use Rattle.pair_core.specs.State.{Plain}
 use Rattle.pair_core.specs.declared.view.SendSide.{SendSide}
 
+-- where the code's values are the core's, what shows the core that it wrote shows the claim's
 pub claims_shown : (g : Shape) (Shown : Core Plain → Type 0) (s : Core Plain) (d : SendSide) (place n p v w : ℕ) (laid : List ℕ) → d ≡ s.send → laid ≡ [] → place ≡ d.round % g.depth
     → v ≡ s.word (Claim (p / 32)) → w ≡ bit_or v (2 ^ (p % 32))
     → Shown (wrote n (Claim (p / 32)) w (record s {
@@ -38,8 +40,10 @@ claims_shown g Shown s d place n p v w laid e none there was is shown =
       marks = put s.marks n (mark d.round p tt ∷ s.marks n);
     }))) (is ∙ ap (λ (z : ℕ). bit_or z (2 ^ (p % 32))) was) shown)))
 
+-- a try at a word that is as it was seen is the claim
 pub won : (g : Shape) (Shown : Core Plain → Type 0) (s : Core Plain) (n p : ℕ) → s.word (Claim (p / 32)) ≡ s.seen n (Claim (p / 32)) → Shown (claims g n p tt s) → Shown (tries_claim g n p tt s)
 won g Shown s n p same shown = subst Shown (sym (cond-true _ _ _ (eq-eqb _ _ same))) shown
 
+-- a try at any other word is a load
 pub lost : (g : Shape) (Shown : Core Plain → Type 0) (s : Core Plain) (n p : ℕ) → s.word (Claim (p / 32)) ≢ s.seen n (Claim (p / 32)) → Shown (loads n (Claim (p / 32)) s) → Shown (tries_claim g n p tt s)
 lost g Shown s n p other shown = subst Shown (sym (cond-false _ _ _ (ne_eqb _ _ other))) shown

@@ -1,4 +1,4 @@
--- A copy of a state shows the same cores.
+-- A copy of a state shows the same cores, since all that is read of a seat is the same in its copy.
 use Rattle.std.proofs.Common.{◌≡◌, ◌∙◌, ℕ, ◌+◌, ◌-◌, ◌^◌, ◌<◌, min, List, [], ◌∷◌, ◌++◌, length, get_or, Some, sym, ap, subst, arith}
 use Rattle.std.specs.Prelude.{slice_get}
 use Rattle.std.proofs.lemmas.List.{length_push}
@@ -20,6 +20,7 @@ use Rattle.pair_core.proofs.StateAdds.{push_get}
 pub there : {X : Type 0} (xs ys : List X) → length ys ≡ length xs → (at : ℕ) (y : X) → slice_get ys at ≡ Some y → (x : X) × (slice_get xs at ≡ Some x)
 there {X} xs ys size at y is = let low = slice_get_within ys at y is in (get_or xs at y, slice_get-get_or xs at y (omega arith))
 
+-- what holds of the seats that are kept holds of copies of them
 pub kept_copy : (g : Shape) (words : List ℕ) (slots : List Spot) (send : SendSide) (recv : RecvSide) (seats copies : List Seat) → IsKept g words slots send recv seats → AreCopies seats copies
     → IsKept g words slots send recv copies
 kept_copy g words slots send recv seats copies kept same =
@@ -41,6 +42,7 @@ kept_copy g words slots send recv seats copies kept same =
       out = (let l = same.size in let out = kept.out in omega arith);
     }
 
+-- and the copies show each core that they show
 pub stands_copy : (g : Shape) (words : List ℕ) (slots : List Spot) (send : SendSide) (recv : RecvSide) (seats copies : List Seat) (takes : List (Mark Plain)) (s : Core Plain)
     → Stands g words slots send recv seats takes s → AreCopies seats copies → Stands g words slots send recv copies takes s
 stands_copy g words slots send recv seats copies takes s shows same = record {
@@ -66,9 +68,12 @@ stands_copy g words slots send recv seats copies takes s shows same = record {
 
 -- copies of the first n seats of a list
 pub record AreSome (n : ℕ) (seats copies : List Seat) : Type 0 where
+  -- they are n
   pub size : length copies ≡ n
+  -- each is a copy of the seat at its place
   pub each : (at : ℕ) (v w : Seat) → slice_get seats at ≡ Some v → slice_get copies at ≡ Some w → IsCopy v w
 
+-- with a copy of the next seat they are one more
 pub some_more : (n : ℕ) (seats copies new : List Seat) (v w : Seat) → AreSome n seats copies → slice_get seats n ≡ Some v → IsCopy v w → new ≡ copies ++ w ∷ [] → AreSome (n + 1) seats new
 some_more n seats copies new v w some is copy after = subst (AreSome (n + 1) seats) (sym after) (record {
   size = (let l = length_push copies w in let size = some.size in omega arith);
@@ -85,6 +90,7 @@ kept_same g g' words words' slots slots' send recv seats copies a b d same kept 
     (subst (λ (z : List ℕ). IsKept g z slots' send recv copies) (sym b)
     (subst (λ (z : List Spot). IsKept g words z send recv copies) (sym d) (kept_copy g words slots send recv seats copies kept same)))
 
+-- and all of them show the cores that the state shows
 pub stands_same : (g g' : Shape) (words words' : List ℕ) (slots slots' : List Spot) (send : SendSide) (recv : RecvSide) (seats copies : List Seat) (takes takes' : List (Mark Plain)) (s : Core Plain) → g' ≡ g
     → words' ≡ words → slots' ≡ slots → takes' ≡ takes → AreCopies seats copies → Stands g words slots send recv seats takes s → Stands g' words' slots' send recv copies takes' s
 stands_same g g' words words' slots slots' send recv seats copies takes takes' s a b d f same shows =

@@ -1,4 +1,5 @@
--- The state before the first step.
+-- The state before the first step: it keeps the first words, each slot at home with round 0, and a fresh seat for each
+-- side.
 use Rattle.std.proofs.Common.{◌≡◌, ◌≢◌, ℕ, zero, suc, ◌+◌, ◌*◌, ◌^◌, ◌<◌, List, [], ◌∷◌, length, get_or, Some, None, refl, sym, ap, ◌∙◌, subst, arith}
 use Rattle.std.specs.Prelude.{slice_get, replicate, nat_lt, if◌then◌else◌}
 use Rattle.std.proofs.lemmas.Bool.{le-ltb}
@@ -23,6 +24,7 @@ pair_get v w P a b zero y is = let e : v ≡ y = cc in subst (P 0) e a
 pair_get v w P a b (suc zero) y is = let e : w ≡ y = cc in subst (P 1) e b
 pair_get v w P a b (suc (suc j)) y is = let e : None ≡ Some y = is in cc
 
+-- what is kept is whole
 pub first_kept : (g : Shape) (words : List ℕ) (slots : List Spot) (send : SendSide) (recv : RecvSide) (seats : List Seat) (v w : Seat) → seats ≡ v ∷ w ∷ [] → length words ≡ word_count g
     → length slots ≡ g.depth * cells g → send.round ≡ 0 → recv.round ≡ 0 → send.markers ≡ 0 → recv.watchers ≡ 0 → IsFresh g v → IsFresh g w → v.seat ≡ 0 → w.seat ≡ 1
     → IsKept g words slots send recv seats
@@ -53,6 +55,7 @@ first_view g v n fresh is live = record {
   marks = fresh.marks;
 }
 
+-- and shows the first core
 pub first_stands : (g : Shape) (words : List ℕ) (slots : List Spot) (send : SendSide) (recv : RecvSide) (seats : List Seat) (takes : List (Mark Plain)) (v w : Seat) → seats ≡ v ∷ w ∷ [] → ListsWords g words (first_word g)
     → slots ≡ replicate (g.depth * cells g) (Filled 0) → send ≡ (first_state {A = Plain} g).send → recv ≡ (first_state {A = Plain} g).recv → takes ≡ []
     → IsFresh g v → IsFresh g w → v.seat ≡ 0 → w.seat ≡ 1 → Stands g words slots send recv seats takes (first_state g)

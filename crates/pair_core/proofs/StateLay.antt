@@ -1,4 +1,5 @@
--- A piece that a claim is laid into.
+-- A piece that a claim is laid into: what is left of the claim by a test of its other pieces, and what goes out by the
+-- word.
 use Rattle.std.proofs.Common.{◌≡◌, ◌≢◌, ◌∙◌, inl, inr, ℕ, zero, suc, length, ◌++◌, ◌-◌, ◌%◌, ◌^◌, ◌<◌, Bool, true, false, true≢false, ◌==◌, ◌&&◌, ◌||◌, List, [], ◌∷◌, Option, Some, None, bit_or, refl, sym, ap, subst, arith}
 use Rattle.std.specs.Prelude.{not, IfSome, IfNone}
 use Rattle.std.proofs.lemmas.Bool.{cases_Bool}
@@ -23,6 +24,7 @@ pub has_any : (i : ℕ) (xs : List ℕ) → list_any (λ y. y == i) xs ≡ has x
 has_any i [] = refl
 has_any i (x ∷ xs) = ap (λ (b : Bool). (x == i) || b) (has_any i xs)
 
+-- where the opposite is so, it isn't
 pub not_yes : (b : Bool) → not b ≡ true → b ≡ false
 not_yes true e = sym e
 not_yes false e = refl
@@ -91,6 +93,7 @@ lay_out g v s i k p w x o pend inside round own is full =
     subst (λ (o : Option Pending). Some (k, i) ≡ out_in (laid_entries g i o s)) (sym pend)
     (subst (λ (b : Bool). Some (k, i) ≡ out_in (where_so b (Out x.round i) ++ Lay x.round x.partition i ∷ [])) (sym yes) (ap (λ (z : ℕ). Some (z, i)) round))
 
+-- nothing goes out where the word isn't full then
 pub lay_still : (g : Shape) → IsShape g → (s : Core Plain) (i k p w : ℕ) (x : Pending) (o : Option Pending) → o ≡ Some x → i < pieces g → k ≡ x.round → x.partition ≡ p
     → w ≡ bit_or (s.word (Piece (k % g.depth) i)) (2 ^ (p - first_part g i)) → ¬ IsFull g w k i → None ≡ out_in (laid_entries g i o s)
 lay_still g v s i k p w x o pend inside round own is lacks =
@@ -103,6 +106,7 @@ lay_still g v s i k p w x o pend inside round own is lacks =
     subst (λ (o : Option Pending). None ≡ out_in (laid_entries g i o s)) (sym pend)
     (subst (λ (b : Bool). None ≡ out_in (where_so b (Out x.round i) ++ Lay x.round x.partition i ∷ [])) (sym no) refl)
 
+-- and nothing is taken by it
 pub lay_takes : (g : Shape) (s : Core Plain) (i : ℕ) (o : Option Pending) → None ≡ take_in (laid_entries g i o s)
 lay_takes g s i None = refl
 lay_takes g s i (Some x) = go (is_full g (bit_or (s.word (Piece (x.round % g.depth) i)) (2 ^ (x.partition - first_part g i))) x.round i)
@@ -117,13 +121,16 @@ low_at [] at low = absurd (omega arith)
 low_at (v ∷ vs) zero low = (v.seat, (v, refl, refl))
 low_at (v ∷ vs) (suc at) low = let r = low_at vs at (omega arith) in (r.0, (r.1.0, r.1.1, r.1.2))
 
+-- an option has one claim at most
 pub some_one : (o : Option Pending) (x y : Pending) → o ≡ Some x → o ≡ Some y → x ≡ y
 some_one o x y a b = let e : Some x ≡ Some y = sym a ∙ b in cc
 
+-- where one thing follows of another for each value, it does for what an option has
 pub some_map : {A : Type 0} (o : Option A) (P Q : A → Type 0) → ((x : A) → P x → Q x) → IfSome o P → IfSome o Q
 some_map {A} (Some x) P Q f p = f x p
 some_map {A} None P Q f p = p
 
+-- and for an option that has nothing
 pub none_map : {A : Type 0} (o : Option A) (P Q : Type 0) → (P → Q) → IfNone o P → IfNone o Q
 none_map {A} (Some x) P Q f p = p
 none_map {A} None P Q f p = f p

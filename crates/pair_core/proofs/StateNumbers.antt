@@ -1,4 +1,5 @@
--- The numbers of words: each is below the count, and no two words that fit have one number.
+-- The numbers of words: each is below the count, and no two words that fit have one number. The kinds of words stand
+-- one behind the other, and the piece words as a table of places and pieces.
 use Rattle.std.proofs.Common.{◌≡◌, ◌≢◌, inl, inr, ℕ, ◌+◌, ◌-◌, ◌*◌, ◌/◌, ◌%◌, ◌<◌, ◌≤◌, false, List, length, get_or, refl, sym, ap, ◌∙◌, subst, arith}
 use Rattle.std.specs.Prelude.{slice_set}
 use Rattle.std.proofs.Math.Nat.{mul-le-mul_right}
@@ -19,14 +20,17 @@ use Rattle.pair_core.proofs.Puts.{put_here, put_else, put_pair_here, put_pair_el
 pub row_lt : (d i depth n : ℕ) → d < depth → i < n → d * n + i < depth * n
 row_lt d i depth n low inside = let h = mul-le-mul_right {m = d + 1} {n = depth} n (omega arith) in omega (arith, h)
 
+-- numbers that are the same are in one row
 pub row_one : (d i e j n : ℕ) → i < n → j < n → d * n + i ≡ e * n + j → d ≡ e
 row_one d i e j n a b same = sym (div-mul-add d n i a) ∙ (ap (λ (z : ℕ). z / n) same ∙ div-mul-add e n j b)
 
+-- and at one place of it
 pub cell_one : (d i e j n : ℕ) → i < n → j < n → d * n + i ≡ e * n + j → i ≡ j
 cell_one d i e j n a b same =
     let rows = row_one d i e j n a b same in
     let moved : e * n + i ≡ e * n + j = subst (λ (z : ℕ). z * n + i ≡ e * n + j) rows same in omega arith
 
+-- the number of a word that fits is below the count
 pub number_lt : (g : Shape) (x : Name) → Fits g x → number g x < word_count g
 number_lt g (Claim c) fits = omega arith
 number_lt g Release fits = omega arith
@@ -34,6 +38,7 @@ number_lt g (Take t) fits = omega arith
 number_lt g (Return t) fits = omega arith
 number_lt g (Piece d i) fits = let h = row_lt d i g.depth (pieces g) fits.0 fits.1 in omega (arith, h)
 
+-- words that fit and have one number are one
 pub number_one : (g : Shape) (x y : Name) → Fits g x → Fits g y → number g x ≡ number g y → x ≡ y
 number_one g (Claim c) (Claim b) p q same = ap Claim same
 number_one g (Claim c) Release p q same = absurd (omega arith)
@@ -72,6 +77,7 @@ word_here {X} (Take c) w f = put_here (λ n. f (Take n)) c w
 word_here {X} (Return c) w f = put_here (λ n. f (Return n)) c w
 word_here {X} (Piece d i) w f = put_pair_here (λ m n. f (Piece m n)) d i w
 
+-- this is any other
 pub word_else : {X : Type 0} (x y : Name) (w : X) (f : Name → X) → y ≢ x → put_word x w f y ≡ f y
 word_else {X} (Claim c) (Claim b) w f other = put_else (λ n. f (Claim n)) c w b (λ e. other (ap Claim e))
 word_else {X} (Take c) (Take b) w f other = put_else (λ n. f (Take n)) c w b (λ e. other (ap Take e))

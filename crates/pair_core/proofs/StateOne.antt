@@ -1,4 +1,5 @@
--- An event is one move at most that is allowed.
+-- An event is one move at most that is allowed: its kind says which sort of move it is, and its seat, its word, its
+-- round and its partition say the rest.
 use Rattle.std.proofs.Common.{◌≡◌, ◌∙◌, ℕ, zero, suc, ◌+◌, ◌*◌, ◌%◌, List, [], ◌∷◌, ◌++◌, Some, refl, sym, ap, subst, arith}
 use Rattle.part_geometry.specs.Shape.{Shape}
 use Rattle.part_geometry.specs.Pieces.{pieces}
@@ -22,6 +23,7 @@ both {A} {B} {C} f a b x y p q = ap (λ (z : A). f z x) p ∙ ap (f b) q
 piece_one : (g : Shape) (d e i j w : ℕ) → d ≡ e → w ≡ number g (Piece d i) → w ≡ number g (Piece e j) → i ≡ j
 piece_one g d e i j w same a b = let there : w ≡ number g (Piece d j) = subst (λ (z : ℕ). w ≡ number g (Piece z j)) (sym same) b in omega arith
 
+-- two moves that an event is, both allowed, are the same
 pub one_move : (g : Shape) → IsOneMove g
 one_move g s e (StorePiece k i) n r a q b = reads_1 g s e (λ n. StorePiece k i ≡ n) r.0.kind_is
     (λ l j p. let same = sym r.1 ∙ p.1 in both StorePiece k l i j same (piece_one g (k % g.depth) (l % g.depth) i j e.word (ap (λ (z : ℕ). z % g.depth) same) r.0.on p.0.on)) n q

@@ -1,4 +1,5 @@
--- Events that were made one after the other.
+-- Events that were made one after the other: what holds of the core after the first n leads to what holds after one
+-- more.
 use Rattle.std.proofs.Common.{◌≡◌, ℕ, zero, suc, ◌+◌, List, [], ◌∷◌, ◌++◌, Some, Option, refl, subst, arith}
 use Rattle.std.specs.Prelude.{slice_get}
 use Rattle.part_geometry.specs.Shape.{Shape}
@@ -32,6 +33,7 @@ leads_more g events n e Before Holds is leads made =
     let end : suc n ≡ n + 1 = omega arith in
     subst (λ (k : ℕ). LeadsTo g events k Holds) end (m ∷ ms, after g s m, entries g s m ++ h, new, happened g events (suc n) (m ∷ ms) (after g s m) (entries g s m ++ h) new, next.3)
 
+-- where one thing follows of another for each core, it does for the one that the events lead to
 pub leads_so : (g : Shape) (events : List Event) (n : ℕ) (Before Holds : Core Plain → Type 0) → ((s : Core Plain) → Before s → Holds s) → LeadsTo g events n Before → LeadsTo g events n Holds
 leads_so g events n Before Holds so leads = (leads.0, leads.1, leads.2, leads.3, leads.4, so leads.1 leads.5)
 
@@ -42,6 +44,7 @@ went g g' events n e Before Holds r out take same done is leads becomes =
     leads_more g events n e Before Holds is leads (λ s before.
     let b = subst (λ (z : Shape). Becomes z e Holds s (Done out take)) same (subst (Becomes g' e Holds s) done (becomes s before)) in (b.0, b.1, b.2, b.3))
 
+-- this is where it is refused: the replay stops before it
 pub stopped : (g g' : Shape) (events : List Event) (n : ℕ) (e : Event) (Before Holds : Core Plain → Type 0) (r : Applied) → g' ≡ g → r ≡ NotAllowed → slice_get events n ≡ Some e
     → LeadsTo g events n Before → ((s : Core Plain) → Before s → Becomes g' e Holds s r) → LeadsTo g events n (λ s. (e : Event) × (slice_get events n ≡ Some e) × IsRefused g s e)
 stopped g g' events n e Before Holds r same not is leads becomes =

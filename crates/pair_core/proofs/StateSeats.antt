@@ -1,4 +1,5 @@
--- The seats that a state keeps, where one of them changed.
+-- The seats that a state keeps, where one of them changed: the elements at the other places stay, and so do their
+-- views.
 use Rattle.std.proofs.Common.{◌≡◌, ◌≢◌, ℕ, ◌+◌, ◌-◌, ◌^◌, ◌<◌, ◌≤◌, min, List, [], ◌∷◌, length, get_or, Option, Some, refl, sym, ap, ◌∙◌, subst, arith}
 use Rattle.std.specs.Prelude.{slice_set, slice_get, Result, Ok, Err, IfOk, IfErr}
 use Rattle.std.proofs.lemmas.List.{get_or-set_same, get_or-set_other}
@@ -32,14 +33,17 @@ set_get {X} xs i x P inside here rest j y is = dite (ℕ_discrete j i)
     let low : j < length xs = (let h = slice_get_within (slice_set xs i x) j y is in let l = length-set xs i x in omega arith) in
     rest j y other (slice_get-get_or xs j y low ∙ ap Some old))
 
+-- the element that was changed is the new one
 pub get_set : {X : Type 0} (xs : List X) (i : ℕ) (x : X) → i < length xs → slice_get (slice_set xs i x) i ≡ Some x
 get_set {X} xs i x inside = slice_get-get_or (slice_set xs i x) i x (let l = length-set xs i x in omega arith) ∙ ap Some (get_or-set_same xs i x x inside)
 
+-- any other is the old one
 pub get_else : {X : Type 0} (xs : List X) (i j : ℕ) (x y : X) → j ≢ i → slice_get xs j ≡ Some y → slice_get (slice_set xs i x) j ≡ Some y
 get_else {X} xs i j x y other is =
     let low = slice_get_within xs j y is in
     slice_get-get_or (slice_set xs i x) j y (let l = length-set xs i x in omega arith) ∙ ap Some (get_or-set_other xs i j x y other ∙ get_or_from_slice_get xs j y y is)
 
+-- a place has one element
 pub get_one : {X : Type 0} (xs : List X) (i : ℕ) (x y : X) → slice_get xs i ≡ Some x → slice_get xs i ≡ Some y → x ≡ y
 get_one {X} xs i x y a b = sym (get_or_from_slice_get xs i x x a) ∙ get_or_from_slice_get xs i y x b
 
@@ -81,12 +85,18 @@ kept_set g words slots send recv seats at old new kept is same seen looks =
 
 -- two cores have one view of a seat
 pub record SameAt (n : ℕ) (s t : Core Plain) : Type 0 where
+  -- the seat has the same life
   pub life : t.life n ≡ s.life n
+  -- it has seen the same of each word
   pub seen : t.seen n ≡ s.seen n
+  -- as often
   pub looks : t.looks n ≡ s.looks n
+  -- it has the same claim pending
   pub pending : t.pending n ≡ s.pending n
+  -- and the same marks
   pub marks : t.marks n ≡ s.marks n
 
+-- a seat that has its view in the one core has it in the other
 pub view_same : (g : Shape) (v : Seat) (s t : Core Plain) → SameAt v.seat s t → IsView g v s → IsView g v t
 view_same g v s t same view = record {
   live = same.life ∙ view.live;
@@ -96,6 +106,7 @@ view_same g v s t same view = record {
   marks = view.marks ∙ sym same.marks;
 }
 
+-- and a seat that is blank in the one is in the other
 pub blank_same : (g : Shape) (n : ℕ) (s t : Core Plain) → SameAt n s t → IsBlank g n s → IsBlank g n t
 blank_same g n s t same blank = record {
   blank = same.life ∙ blank.blank;
@@ -109,7 +120,9 @@ blank_same g n s t same blank = record {
 
 -- the seats that are kept have their views, and the others are blank
 pub record Seats (g : Shape) (seats : List Seat) (s : Core Plain) : Type 0 where
+  -- each seat that is kept has its view
   pub each : (at : ℕ) (v : Seat) → slice_get seats at ≡ Some v → IsView g v s
+  -- any other is blank
   pub others : (n : ℕ) → ((at : ℕ) (v : Seat) → slice_get seats at ≡ Some v → v.seat ≢ n) → IsBlank g n s
 
 -- one of them changed
@@ -164,9 +177,11 @@ saw_here g old new x index w s view fits at low low' seat seen looks pending mar
 pub read_seat : (seats : List Seat) (at : ℕ) (v : Seat) → at < length seats → v ≡ get_or seats at v → slice_get seats at ≡ Some v
 read_seat seats at v inside is = slice_get_read seats (length seats) at v refl inside is
 
+-- its number is the one that stands at the place
 pub at_seat : (seats : List Seat) (at n : ℕ) (v : Seat) → slice_get seats at ≡ Some v → IsAt seats at n → v.seat ≡ n
 at_seat seats at n v is there = ap (λ (z : Seat). z.seat) (get_one seats at v there.0 is there.1) ∙ there.2
 
+-- a number that is read within a list doesn't depend on what is read outside of it
 pub read_number : (xs : List ℕ) (i x : ℕ) → i < length xs → x ≡ get_or xs i x → x ≡ get_or xs i 0
 read_number xs i x inside is = sym (get_or_from_slice_get xs i x 0 (slice_get_read xs (length xs) i x refl inside is))
 
@@ -178,6 +193,7 @@ send_at g words slots send recv seats kept = first seats kept.two kept.send_seat
     first [] two own = absurd (omega arith)
     first (v ∷ vs) two own = (v, refl, own v refl)
 
+-- this is the receive side
 pub recv_at : (g : Shape) (words : List ℕ) (slots : List Spot) (send : SendSide) (recv : RecvSide) (seats : List Seat) → IsKept g words slots send recv seats → IsAt seats 1 1
 recv_at g words slots send recv seats kept = second seats kept.two kept.recv_seat
   where
@@ -190,6 +206,7 @@ recv_at g words slots send recv seats kept = second seats kept.two kept.recv_sea
 pub pends_else : (n : ℕ) (x : Option Pending) (s : Core Plain) (m : ℕ) → m ≢ n → SameAt m s (record s { pending = put s.pending n x })
 pends_else n x s m other = record { life = refl; seen = refl; looks = refl; pending = put_else s.pending n x m other; marks = refl }
 
+-- in the seat's own view the claim is the new one
 pub pends_here : (g : Shape) (old new : Seat) (x : Option Pending) (s : Core Plain) → IsView g old s → new.seat ≡ old.seat → new.seen ≡ old.seen → new.looks ≡ old.looks → new.pending ≡ x → new.marks ≡ old.marks
     → IsView g new (record s { pending = put s.pending old.seat x })
 pends_here g old new x s view seat seen looks pending marks = record {
@@ -200,9 +217,11 @@ pends_here g old new x s view seat seen looks pending marks = record {
   marks = marks ∙ (view.marks ∙ ap s.marks (sym seat));
 }
 
+-- another list of marks of a seat leaves the views of the others
 pub marked_else : (n : ℕ) (l : List (Mark Plain)) (s : Core Plain) (m : ℕ) → m ≢ n → SameAt m s (record s { marks = put s.marks n l })
 marked_else n l s m other = record { life = refl; seen = refl; looks = refl; pending = refl; marks = put_else s.marks n l m other }
 
+-- and in its own view they are the new ones
 pub marked_here : (g : Shape) (old new : Seat) (l : List (Mark Plain)) (s : Core Plain) → IsView g old s → new.seat ≡ old.seat → new.seen ≡ old.seen → new.looks ≡ old.looks → new.pending ≡ old.pending → new.marks ≡ l
     → IsView g new (record s { marks = put s.marks old.seat l })
 marked_here g old new l s view seat seen looks pending marks = record {
@@ -223,10 +242,12 @@ view_equal g old new s view seat seen looks pending marks = record {
   marks = marks ∙ (view.marks ∙ ap s.marks (sym seat));
 }
 
+-- where one thing follows of another for each value, it does for the value of a result
 pub ok_map : {A E : Type 0} (r : Result A E) (P Q : A → Type 0) → ((x : A) → P x → Q x) → IfOk r P → IfOk r Q
 ok_map {A} {E} (Ok x) P Q f p = f x p
 ok_map {A} {E} (Err e) P Q f p = p
 
+-- and for each error
 pub err_map : {A E : Type 0} (r : Result A E) (P Q : E → Type 0) → ((x : E) → P x → Q x) → IfErr r P → IfErr r Q
 err_map {A} {E} (Ok x) P Q f p = p
 err_map {A} {E} (Err e) P Q f p = f e p

@@ -1,4 +1,5 @@
--- Slots of which some become one thing.
+-- Slots of which some become one thing: the loop over the cells sets the slot of each cell that is picked, one after
+-- the other.
 use Rattle.std.proofs.Common.{◌≡◌, ◌≢◌, inl, inr, ℕ, ◌+◌, ◌*◌, ◌<◌, Bool, true, false, true≢false, ◌==◌, ◌&&◌, List, length, get_or, refl, sym, ap, ◌∙◌, arith}
 use Rattle.std.specs.Prelude.{slice_set}
 use Rattle.std.proofs.lemmas.Bool.{cases_Bool, cases_eq, cond-true, cond-false, eqb-true, eq-eqb}
@@ -18,9 +19,11 @@ use Rattle.part_geometry.specs.Walk.{cell_at}
 use Rattle.pair_core.proofs.Full.{and_both, and_first, and_second}
 use Rattle.pair_core.proofs.StateNumbers.{row_lt, row_one, cell_one}
 
+-- before the first cell nothing is changed
 pub filled_none : (g : Shape) (place : ℕ) (pick : Pick) (x : Spot) (old : List Spot) → IsFilledTo g 0 place pick x old old
 filled_none g place pick x old = record { size = refl; here = λ c low _. absurd (omega arith); elsewhere = λ d c low inside _. refl }
 
+-- with one cell more, its slot is changed where it is picked
 pub filled_more : (g : Shape) (n place : ℕ) (pick : Pick) (x : Spot) (old mid new : List Spot) (so : Bool) → IsFilledTo g n place pick x old mid → n < cells g → place < g.depth
     → length old ≡ g.depth * cells g → so ≡ picked g pick n → (so ≡ true → new ≡ slice_set mid (place * cells g + n) x) → (so ≡ false → new ≡ mid)
     → IsFilledTo g (n + 1) place pick x old new
@@ -69,6 +72,7 @@ filled_slots g place pick x old new slot before filled d c row cell = elim (case
       ∙ (before d c row cell ∙ sym (cond-false _ _ _ not_so))
 ]
 
+-- a cell is picked by what its table says of it
 pub picked_at : (g : Shape) (pick : Pick) (c : ℕ) → picked_cell pick (cell_at g c) ≡ picked g pick c
 picked_at g (Sent p) c = refl
 picked_at g (Laid p i) c = refl

@@ -36,20 +36,33 @@ listen_bound g recv = recv.round + (recv.takes + 1 - take_words g)
 
 -- the numbers in the entries are those of partitions and pieces
 pub record Within (g : Shape) (h : List Entry) : Type 0 where
+  -- a mark is of a send partition of the pair
   pub marks : (k p : ℕ) → Has h (entry.Mark k p) → p < g.send_parts
+  -- a lay is into a piece that the partition touches
   pub lays : (k p i : ℕ) → Has h (entry.Lay k p i) → (i < pieces g) × Touches g i p
+  -- what goes out is a piece of the pair
   pub outs : (k i : ℕ) → Has h (entry.Out k i) → i < pieces g
+  -- a take is of a receive partition of the pair
   pub takes : (k q : ℕ) → Has h (entry.Take k q) → q < g.recv_parts
 
 pub record Told (g : Shape) (claim take : ℕ → ℕ) (piece : ℕ → ℕ → ℕ) (released : ℕ) (send : SendSide) (recv : RecvSide) (h : List Entry) : Type 0 where
+  -- the rounds that were opened: those before the sender's, and it once one of its claim words is open
   pub opens : Upto h entry.Open (send.round + min 1 send.opened)
+  -- the rounds that were shut: those before the sender's, and it once one of its claim words is shut
   pub shuts : Upto h entry.Shut (send.round + min 1 send.shut)
+  -- the rounds that were listened in: those before the receiver's, and it once all take words are stored
   pub listens : Upto h entry.Listen (listen_bound g recv)
+  -- the rounds that were released: up to the one in the release word
   pub releases : Upto h entry.Release (released + 1)
+  -- each partition was marked in the rounds before its next one
   pub marks : (p : ℕ) → p < g.send_parts → Upto h (λ k. entry.Mark k p) (next_round claim p)
+  -- each partition was laid into each piece that it touches, in the rounds below the bound
   pub lays : (i p : ℕ) → i < pieces g → Touches g i p → Upto h (λ k. entry.Lay k p i) (lay_bound g piece send i p)
+  -- each piece went out in the rounds below its bound
   pub outs : (i : ℕ) → i < pieces g → Upto h (λ k. entry.Out k i) (out_bound g piece send i)
+  -- each receive partition was taken in the rounds before its next one
   pub takes : (q : ℕ) → q < g.recv_parts → Upto h (λ k. entry.Take k q) (next_round take q)
+  -- the numbers in the entries are those of the pair
   pub within : Within g h
 
 -- the state tells this history
@@ -81,6 +94,7 @@ upto_same h sort a b e u = subst (Upto h sort) e u
 pub has_below : (h : List Entry) (sort : ℕ → Entry) (b k : ℕ) → Upto h sort b → 1 ≤ k → k < b → Has h (sort k)
 has_below h sort b k u low high = (u k).1 (low, high)
 
+-- this is that they aren't
 pub not_above : (h : List Entry) (sort : ℕ → Entry) (b k : ℕ) → Upto h sort b → b ≤ k → ¬ Has h (sort k)
 not_above h sort b k u high has = let x = ((u k).0 has).1 in omega arith
 
@@ -88,15 +102,19 @@ not_above h sort b k u high has = let x = ((u k).0 has).1 in omega arith
 pub stored_is : (i stored round more : ℕ) → i < stored → if_stored i stored round more ≡ round + more
 stored_is i stored round more h = rw (lt-ltb i stored h) refl
 
+-- that of one that isn't stored yet is the round
 pub waiting_is : (i stored round more : ℕ) → stored ≤ i → if_stored i stored round more ≡ round
 waiting_is i stored round more h = rw (le-ltb i stored h) refl
 
+-- what is so counts 1
 pub one_true : (b : Bool) → b ≡ true → one_if b ≡ 1
 one_true b e = rw e refl
 
+-- what isn't counts 0
 pub one_false : (b : Bool) → b ≡ false → one_if b ≡ 0
 one_false b e = rw e refl
 
+-- and nothing counts more
 pub one_most : (b : Bool) → one_if b ≤ 1
 one_most true = omega arith
 one_most false = omega arith

@@ -1,4 +1,5 @@
--- What a word shows after it was stored empty or a bit was added. Above this file words are opaque.
+-- What a word shows after it was stored empty or a bit was added, by the arithmetic of its number. Above this file
+-- words are opaque.
 use Rattle.std.proofs.Common.{◌≡◌, ◌≢◌, inl, inr, ℕ, ◌+◌, ◌*◌, ◌/◌, ◌%◌, ◌^◌, ◌<◌, ◌≤◌, Bool, true, false, true≢false, sym, ap, ◌∙◌, arith, bit_or, add-zero}
 use Rattle.std.specs.Prelude.{IsTrue}
 use Rattle.std.proofs.lemmas.Nat.{or_shr, pow_below, div-mul-add, or_comm}
@@ -11,22 +12,27 @@ use Rattle.gate_word.specs.Words.{word_of, round_in, shut_in, bits_in, Has}
 use Rattle.gate_word.specs.Order.{IsLater}
 use Rattle.pair_core.specs.Words.{bit, empty}
 
+-- a bit is 0 or 1
 pub bit_lt : (w j : ℕ) → bit w j < 2
 unfolding bit
 bit_lt w j = bit_at-lt w j
 
+-- the or with a bit's power of two sets that bit
 pub bit_or_here : (w j : ℕ) → bit (bit_or w (2 ^ j)) j ≡ 1
 unfolding bit
 bit_or_here w j = let e = bit_at_or w (2 ^ j) j in let p = bit_at-pow_same j in let l = bit_at-lt w j in omega (arith, e, p, l)
 
+-- it changes no other bit
 pub bit_or_else : (w j i : ℕ) → i ≢ j → bit (bit_or w (2 ^ j)) i ≡ bit w i
 unfolding bit
 bit_or_else w j i n = let e = bit_at_or w (2 ^ j) i in let p = bit_at-pow_other j i n in omega (arith, e, p)
 
+-- it takes no bit away
 pub bit_or_more : (w j i : ℕ) → bit w i ≤ bit (bit_or w (2 ^ j)) i
 unfolding bit
 bit_or_more w j i = let e = bit_at_or w (2 ^ j) i in omega (arith, e)
 
+-- the round stays, since it stands above all bits
 pub round_or : (w j : ℕ) → j < 33 → round_in (bit_or w (2 ^ j)) ≡ round_in w
 unfolding round_in
 round_or w j h =
@@ -37,6 +43,7 @@ pub empty_round : (k : ℕ) → round_in (empty k) ≡ k
 unfolding round_in empty word_of
 empty_round k = let e = div-mul-add k (2 ^ 33) 0 (omega arith) in ap (λ (z : ℕ). z / 2 ^ 33) (add-zero (k * 2 ^ 33 + 0)) ∙ e
 
+-- no bit of it is set
 pub empty_bit : (k j : ℕ) → j < 33 → bit (empty k) j ≡ 0
 unfolding bit empty word_of
 empty_bit k j h = ap (λ (z : ℕ). z / 2 ^ j % 2) (add-zero (k * 2 ^ 33 + 0)) ∙ (bit_at_cat_low k 33 0 j h ∙ bit_at-zero j)
@@ -66,6 +73,7 @@ pub later_round : (a b : ℕ) → IsLater a b → round_in a ≤ round_in b
 later_round a b (inl less) = omega arith
 later_round a b (inr more) = let e = more.round in omega arith
 
+-- and of two words of one round the later has each bit of the other
 pub later_bit : (a b : ℕ) → IsLater a b → round_in a ≡ round_in b → (j : ℕ) → j < 33 → bit a j ≤ bit b j
 later_bit a b (inl less) same j h = absurd (omega arith)
 later_bit a b (inr more) same j h =
@@ -83,6 +91,7 @@ later_bit a b (inr more) same j h =
       | inr other ↦ omega arith
     ]
 
+-- what these two say is enough for it
 pub later_of : (a b : ℕ) → round_in a ≤ round_in b → (round_in a ≡ round_in b → (j : ℕ) → j < 33 → bit a j ≤ bit b j) → IsLater a b
 later_of a b rounds bits =
     elim (cases_lt (round_in a) (round_in b)) [
@@ -102,17 +111,21 @@ later_of a b rounds bits =
           })
     ]
 
+-- each word counts as later than itself
 pub later_refl : (w : ℕ) → IsLater w w
 later_refl w = later_of w w (omega arith) (λ e j h. omega arith)
 
+-- what is later than a later word is later
 pub later_trans : (a b c : ℕ) → IsLater a b → IsLater b c → IsLater a c
 later_trans a b c p q = later_of a c (let x = later_round a b p in let y = later_round b c q in omega arith) (λ e j h.
     let x = later_round a b p in let y = later_round b c q in
     let u = later_bit a b p (omega arith) j h in let v = later_bit b c q (omega arith) j h in omega arith)
 
+-- a word with one bit more is later
 pub later_or : (w j : ℕ) → j < 33 → IsLater w (bit_or w (2 ^ j))
 later_or w j h = later_of w (bit_or w (2 ^ j)) (let e = round_or w j h in omega arith) (λ e i l. bit_or_more w j i)
 
+-- a word of a higher round is later, whatever its bits
 pub later_newer : (v w : ℕ) → round_in v < round_in w → IsLater v w
 later_newer v w h = inl h
 
@@ -120,9 +133,11 @@ later_newer v w h = inl h
 pub has_bit : (w r b : ℕ) (s : Bool) → Has w r s b → (j : ℕ) → j < 32 → bit w j ≡ bit_at b j
 has_bit w r b s h j low = low_bit w j low ∙ ap (λ (z : ℕ). bit_at z j) h.bits
 
+-- bit 32 is set in one that was made shut
 pub has_shut : (w r b : ℕ) → Has w r true b → bit w 32 ≡ 1
 has_shut w r b h = shut_is w h.shut
 
+-- and isn't in one that was made open
 pub has_open : (w r b : ℕ) → Has w r false b → bit w 32 ≡ 0
 has_open w r b h = let small = bit_lt w 32 in elim (cases_eq (bit w 32) 1) [
   | inl one ↦ absurd (true≢false (sym (is_shut w one) ∙ h.shut))

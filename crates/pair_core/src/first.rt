@@ -36,6 +36,7 @@ fn piece_bits(tables: &Tables, i: usize) -> u32
     requires { i < pieces tables.now }
     ensures { result ≡ need tables.now i }
 {
+    // The geometry's limits, for the proof.
     let _geometry = tables.geometry();
     low_bits(tables.part_count(i))
 }
@@ -90,6 +91,7 @@ pub(crate) fn first_seats(
     ensures { IfOk result (λ seats. (v : Seat) × (w : Seat) × (seats.items ≡ v ∷ w ∷ []) × IsFresh tables.now v
         × IsFresh tables.now w × (v.seat ≡ 0) × (w.seat ≡ 1)) }
 {
+    // The geometry's limits, for the proof.
     let _geometry = tables.geometry();
     let mut seats = Vec::new(alloc);
     seats.push(Seat::new(alloc, 0, words)?)?;

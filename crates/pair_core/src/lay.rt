@@ -35,6 +35,7 @@ fn lacks(tables: &Tables, pending: &Pending, i: usize) -> bool
     requires { i < pieces tables.now }
     ensures { IsTrue result ↔ (Touches tables.now i pending.now.partition × (has pending.now.laid i ≡ false)) }
 {
+    // The limit of the pieces, for the proof.
     let _count = tables.pieces();
     if !tables.touches(i, pending.partition) {
         return false;
@@ -46,6 +47,7 @@ fn lacks(tables: &Tables, pending: &Pending, i: usize) -> bool
 fn is_last(tables: &Tables, pending: &Pending, i: usize) -> bool
     ensures { left_of tables.now i pending.now ≡ laid_on result i (Some pending.now) }
 {
+    // The geometry's limits, for the proof.
     let _geometry = tables.geometry();
     for j in 0..tables.pieces() {
         if j != i && lacks(tables, pending, j) {
@@ -61,6 +63,7 @@ pub(crate) fn lay_of(tables: &Tables, pending: &Pending, partition: u32, word: u
     ensures none { IfNone result ((i : ℕ) → word ≡ number tables.now (Piece (pending.now.round % tables.now.depth) i)
         → ¬ MayLay tables.now pending.now partition i) }
 {
+    // The limit of the pieces, for the proof.
     let _count = tables.pieces();
     if pending.partition != partition {
         return None;
@@ -125,6 +128,7 @@ impl CoreState {
             → Becomes self.old.tables event.now (Shows self.new) core r) }
         ensures memory { IfErr result (λ _. (core : Core Plain) → Shows self.old core → Shows self.new core) }
     {
+        // The geometry's limits, for the proof.
         let _geometry = self.tables.geometry();
         let Some(at) = self.find(event.seat) else {
             return Ok(Applied::NotAllowed);

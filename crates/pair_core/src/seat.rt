@@ -65,6 +65,7 @@ pub(crate) fn fill(slots: &mut Vec<Spot>, tables: &Tables, place: usize, pick: P
     requires place { place < tables.now.depth }
     ensures filled { IsFilled tables.now place pick spot slots.old.items slots.new.items }
 {
+    // The geometry's limits, for the proof.
     let _geometry = tables.geometry();
     let count = tables.cells();
     for c in 0..count {

@@ -73,6 +73,7 @@ impl Tables {
     pub(crate) fn create(alloc: Global, geometry: Geometry) -> Result<Tables, AllocError>
         ensures { IfOk result (λ tables. tables ≡ geometry) }
     {
+        // The geometry's limits, for the proof.
         let _total = geometry.total();
         let cells = all_cells(alloc, geometry)?;
         let firsts = first_parts(alloc, geometry)?;
@@ -89,6 +90,7 @@ impl Tables {
         ensures value { result ≡ self.now }
         ensures limits { IsShape result }
     {
+        // The geometry's limits, for the proof.
         let _total = self.geometry.total();
         self.geometry
     }
@@ -98,6 +100,7 @@ impl Tables {
         ensures value { result ≡ cells self.now }
         ensures limits { result ≤ 2047 }
     {
+        // The geometry's limits, for the proof.
         let _geometry = self.geometry();
         self.cells.len()
     }
@@ -107,6 +110,7 @@ impl Tables {
         ensures value { result ≡ pieces self.now }
         ensures limits { result ≤ 2047 }
     {
+        // The geometry's limits, for the proof.
         let _geometry = self.geometry();
         self.firsts.len()
     }
@@ -176,6 +180,7 @@ impl Tables {
         ensures value { result ≡ number self.now (Piece place i) }
         ensures limits { result < word_count self.now }
     {
+        // The geometry's limits, for the proof.
         let _geometry = self.geometry();
         self.first_piece_word() + (place * self.pieces() + i)
     }
@@ -186,6 +191,7 @@ impl Tables {
         ensures some { IfSome result (λ i. (i < pieces self.now) × (word ≡ number self.now (Piece place i))) }
         ensures none { IfNone result ((i : ℕ) → i < pieces self.now → word ≢ number self.now (Piece place i)) }
     {
+        // The geometry's limits, for the proof.
         let _geometry = self.geometry();
         let first = self.first_piece_word() + place * self.pieces();
         if word < first {
@@ -202,6 +208,7 @@ impl Tables {
         requires { i < pieces self.now }
         ensures { IsTrue result ↔ Touches self.now i p }
     {
+        // The geometry's limits, for the proof.
         let _geometry = self.geometry();
         let first = self.first_part(i);
         p >= first && p - first < self.part_count(i)
@@ -214,6 +221,7 @@ impl Tables {
         ensures value { result ≡ p - first_part self.now i }
         ensures limits { result < 32 }
     {
+        // The geometry's limits, for the proof.
         let _geometry = self.geometry();
         p - self.first_part(i)
     }
@@ -223,6 +231,7 @@ impl Tables {
         requires { i < pieces self.now }
         ensures { IsTrue result ↔ IsFull self.now word round i }
     {
+        // The geometry's limits, for the proof.
         let _geometry = self.geometry();
         let count = self.part_count(i);
         if round_of(word) != round {

@@ -101,6 +101,7 @@ impl CoreState {
             (core.seen 1 (Piece (round % self.now.tables.depth) (piece_of self.now.tables c))) round
             (piece_of self.now.tables c)) }
     {
+        // The geometry's limits, for the proof.
         let _geometry = self.tables.geometry();
         let cell = self.tables.cell(c);
         if cell.recv != q {
@@ -114,6 +115,7 @@ impl CoreState {
         ensures { (core : Core Plain) → Shows self.now core
             → IsTrue result ↔ AreSeen self.now.tables (core.seen 1) round q }
     {
+        // The geometry's limits, for the proof.
         let _geometry = self.tables.geometry();
         for c in 0..self.tables.cells() {
             if !self.sees_cell(round, q, c) {
