@@ -18,16 +18,19 @@ next-length : (g : Plane) (rule : Rule) → length (next_plane g rule).values �
 unfolding next_plane
 next-length g rule = length-map-range_with_len (new_at g rule) 0 (g.rows * g.cols)
 
+-- after any number of steps the grid has as many rows as at first
 pub fold-rows : (g : Plane) (rule : Rule) (n : ℕ) → (fold_plane g rule n).rows ≡ g.rows
 unfolding fold_plane
 fold-rows g rule zero = refl
 fold-rows g rule (suc n) = next-rows (fold_plane g rule n) rule ∙ fold-rows g rule n
 
+-- after any number of steps the grid has as many columns as at first
 pub fold-cols : (g : Plane) (rule : Rule) (n : ℕ) → (fold_plane g rule n).cols ≡ g.cols
 unfolding fold_plane
 fold-cols g rule zero = refl
 fold-cols g rule (suc n) = next-cols (fold_plane g rule n) rule ∙ fold-cols g rule n
 
+-- from a grid in its limits, the grid after any number of steps has rows times columns values
 pub fold-length : (g : Plane) (rule : Rule) (n : ℕ) → IsPlane g → length (fold_plane g rule n).values ≡ g.rows * g.cols
 unfolding fold_plane
 fold-length g rule zero p = p.length

@@ -1,4 +1,4 @@
--- Weights that are copied from a list.
+-- Weights that are copied from a list: the copy agrees with it at each of its places, and zeros stand behind them.
 use Rattle.std.proofs.Common.{◌≡◌, refl, ℕ, zero, suc, ◌<◌, ◌≤◌, List, length, replicate, ℤ, pos, get_or, map, arith, if◌then◌else◌, ◌==◌}
 use Rattle.std.specs.List.{range_with_len}
 use Rattle.std.proofs.lemmas.List.{get_or_past}

@@ -1,4 +1,5 @@
--- A grid that is filled cell by cell with the new values.
+-- A grid that is filled cell by cell with the new values. The cells are stored in the order of their places, and each
+-- leaves those before it as they were, so with the last one the grid is the next grid.
 use Rattle.std.proofs.Common.{◌≡◌, ◌∙◌, refl, sym, ap, ℕ, ◌+◌, ◌*◌, ◌/◌, ◌%◌, ◌<◌, length, ℤ, pos, get_or, set, map, arith, length-set, add-one, get_or-set_same, get_or-set_other}
 use Rattle.std.specs.List.{range_with_len}
 use Rattle.std.proofs.lemmas.List.FromFn.{fill_by_all, get_or-map-range_with_len}
@@ -11,7 +12,7 @@ use Rattle.stencil_def.specs.Step.{new_cell, next_plane, fold_plane}
 abbrev pub new_at : Plane → Rule → ℕ → ℤ
 new_at g rule k = new_cell g rule (k / g.cols) (k % g.cols)
 
--- the first n cells have their new values
+-- the first n cells have their new values, in a grid of the same size that keeps the limits
 pub record Filled (g : Plane) (rule : Rule) (next : Plane) (n : ℕ) : Type 0 where
   pub rows : next.rows ≡ g.rows
   pub cols : next.cols ≡ g.cols
@@ -19,6 +20,7 @@ pub record Filled (g : Plane) (rule : Rule) (next : Plane) (n : ℕ) : Type 0 wh
   pub plane : IsPlane next
   pub done : (k : ℕ) → k < n → get_or next.values k (pos 0) ≡ new_at g rule k
 
+-- a grid in which all cells have their new values is the next grid
 pub filled-all : (g : Plane) (rule : Rule) (next : Plane) → Filled g rule next (g.rows * g.cols) → next ≡ next_plane g rule
 unfolding next_plane
 filled-all g rule next f =
@@ -31,6 +33,7 @@ filled-all g rule next f =
 pub place-inside : (g : Plane) (row col : ℕ) → row < g.rows → col < g.cols → row * g.cols + col < g.rows * g.cols
 place-inside g row col p q = let h = mul-add-lt row g.cols col g.rows p q in omega (arith, h)
 
+-- a cell of the next grid holds its new value
 pub next-cells : (g : Plane) (rule : Rule) (row col : ℕ) → row < g.rows → col < g.cols
     → cell (next_plane g rule) row col ≡ new_cell g rule row col
 unfolding next_plane
@@ -40,6 +43,7 @@ next-cells g rule row col p q =
     rw (div-mul-add row g.cols col q, mod-mul-add row g.cols col q) refl in
     at ∙ h
 
+-- once the cell behind the filled ones is set to its new value, one more cell is filled
 pub filled-more : (g : Plane) (rule : Rule) (next after : Plane) (row col : ℕ) (value : ℤ) → row < g.rows → col < g.cols
     → value ≡ new_cell g rule row col
     → after ≡ with_cell next row col value
@@ -60,6 +64,7 @@ filled-more g rule next after row col value p q e is plane f =
       done = rw values (λ k h. grind (arith, f.done k, new, get_or-set_same next.values n value (pos 0) room, get_or-set_other next.values n k value (pos 0)));
     }
 
+-- where all columns of a row are filled, all cells before the next row are: one number, as both loops write it
 pub filled-row : (g : Plane) (rule : Rule) (next : Plane) (row : ℕ) → Filled g rule next (row * g.cols + g.cols) → Filled g rule next ((row + 1) * g.cols)
 filled-row g rule next row f = record {
   rows = f.rows;
@@ -69,10 +74,12 @@ filled-row g rule next row f = record {
   done = λ k h. f.done k (omega arith);
 }
 
+-- after no step the grid is the first one
 pub fold-none : (g : Plane) (rule : Rule) → fold_plane g rule 0 ≡ g
 unfolding fold_plane
 fold-none g rule = refl
 
+-- the grid after n + 1 steps is the next of the grid after n
 pub fold-more : (g : Plane) (rule : Rule) (n : ℕ) → fold_plane g rule (n + 1) ≡ next_plane (fold_plane g rule n) rule
 unfolding fold_plane
 fold-more g rule n = rw add-one refl
