@@ -1,4 +1,4 @@
--- The padded grid after a number of steps.
+-- The padded grid after a number of steps: padded by the new cells of one grid, it is padded by the cells of the next.
 use Rattle.std.proofs.Common.{◌≡◌, ◌∙◌, sym, ap, subst, ℕ, ◌+◌, ◌*◌, ◌<◌, ℤ, List, Result, Ok, Err, IfOk, arith}
 use Rattle.stencil_def.specs.declared.rule.Rule.{Rule}
 use Rattle.stencil_def.specs.Plane.{Plane, cell}
@@ -32,10 +32,12 @@ padded-first g rule rows cols values e f padded =
     subst (λ p. IsPadded (cell p) rule rows cols values) (sym (fold-none g rule))
     (subst (λ n. IsPadded (cell g) rule n cols values) (sym e) (subst (λ n. IsPadded (cell g) rule g.rows n values) (sym f) padded))
 
+-- the length of the first padded grid, with the sizes that the code reads
 pub length-first : (g : Plane) (rule : Rule) (rows cols size : ℕ) → rows ≡ g.rows → cols ≡ g.cols
     → size ≡ with_ends rule g.rows * with_ends rule g.cols → size ≡ with_ends rule rows * with_ends rule cols
 length-first g rule rows cols size e f long = long ∙ (ap (λ n. with_ends rule n * with_ends rule g.cols) (sym e) ∙ ap (λ n. with_ends rule rows * with_ends rule n) (sym f))
 
+-- a fact of a success gives each fact that follows from it
 pub if-ok : {T E : Type 0} (P Q : T → Type 0) (r : Result T E) → ((x : T) → P x → Q x) → IfOk r P → IfOk r Q
 if-ok P Q (Ok x) f h = f x h
 if-ok P Q (Err e) f h = tt

@@ -1,4 +1,5 @@
--- Sums over mirrored weights.
+-- Sums over mirrored weights. Where equal weights stand on both sides of the middle, the values that they meet are
+-- added first, so one product stands for up to four, and the sum stays the same.
 use Rattle.std.proofs.Common.{◌≡◌, ◌∙◌, refl, sym, ap, ℕ, zero, suc, ◌+◌, ◌-◌, ◌*◌, ◌<◌, ◌≤◌, ℤ, ◌+ℤ◌, ◌*ℤ◌, unsigned_abs, List, inl, inr, arith, rules}
 use Rattle.std.specs.List.{All}
 use Rattle.std.proofs.lemmas.Int.{ints}
@@ -20,6 +21,7 @@ pub both-before : (r : ℕ) (f : ℕ → ℤ) (a : ℕ) → a < r → both r f a
 unfolding both
 both-before r f a h = search rules
 
+-- at the middle, and behind it, a place counts alone
 pub both-middle : (r : ℕ) (f : ℕ → ℤ) (a : ℕ) → r ≤ a → both r f a ≡ f a
 unfolding both
 both-middle r f a h = search rules
@@ -47,6 +49,7 @@ unfolding sum_below
 sum-plus zero f g = refl
 sum-plus (suc n) f g = let before = sum-plus n f g in omega (arith, ints, before)
 
+-- a sum of n summands of at most m each is at most n m in size
 pub sum-size : (n m : ℕ) (f : ℕ → ℤ) → ((k : ℕ) → k < n → unsigned_abs (f k) ≤ m) → unsigned_abs (sum_below n f) ≤ n * m
 unfolding sum_below
 sum-size zero m f h = omega arith
@@ -113,10 +116,12 @@ pub row-alike-size : (window : List ℤ) (width r x a b : ℕ) → All IsValue w
 row-alike-size window width r x a b h =
     both-size r (λ column. met window width x a column) b 1000000000000 (λ k. value-at window (a * width + (x + k)) h)
 
+-- the sum of the values that meet equal weights, at most four, is at most 4 * 10^12 in size
 pub alike-size : (window : List ℤ) (width r x a b : ℕ) → All IsValue window → IsAlike (alike window width r x a b)
 alike-size window width r x a b h =
     both-size r (λ row. row_alike window width r x row b) a 2000000000000 (λ row. row-alike-size window width r x row b h)
 
+-- a sum over a window in which weights and values are in range is at most 25 * 10^15 in size
 pub window-size : (w : Square) (window : List ℤ) (width x : ℕ) → w.reach ≤ 2 → HasLimits w → All IsValue window
     → IsSum (sum_at w window width x)
 window-size w window width x near weights values =

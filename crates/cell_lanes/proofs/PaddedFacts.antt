@@ -1,4 +1,6 @@
--- A grid with ends on all sides.
+-- A grid with ends on all sides. The own rows are stored first. What lies in the rows before and behind them follows
+-- from the own rows, which storing those leaves as they are. So all of it is there at the end, and a window of it
+-- holds what the weights meet.
 use Rattle.std.proofs.Common.{◌≡◌, ◌∙◌, refl, sym, ap, subst, ℕ, zero, suc, ◌+ℤ◌, ◌*ℤ◌, Option, Some, None, int_div, ◌+◌, ◌-◌, ◌*◌, ◌<◌, ◌≤◌, ℤ, pos, ◌-ℤ◌, List, ◌++◌, length, take, drop, length-take-le, get_or, set, get_or-set_same, get_or-set_other, to_z, of_z, w64, arith}
 use Rattle.std.specs.List.{All}
 use Rattle.std.proofs.lemmas.List.Elements.{All-set, All-append, All-take, All-drop}
@@ -22,6 +24,7 @@ pub record RowSet (rule : Rule) (rows cols y n : ℕ) (old values : List ℤ) : 
   pub done : (x : ℕ) → x < n → get_or values (y * with_ends rule cols + x) (pos 0) ≡ end_or rule rows (λ row. row_value rule cols old row x) y
   pub below : (k : ℕ) → k < y * with_ends rule cols → get_or values k (pos 0) ≡ get_or old k (pos 0)
   pub above : (k : ℕ) → y * with_ends rule cols + n ≤ k → get_or values k (pos 0) ≡ get_or old k (pos 0)
+  -- each value is in range
   pub limits : All IsValue values
 
 -- a place in another row is before row b, or behind its first n places
@@ -31,6 +34,7 @@ in-other-row a b w x n apart less few p q =
     (λ h. let m = mul-le (a + 1) w b w (omega arith) (omega arith) in p (omega (arith, m, less)))
     (λ h. let m = mul-le (b + 1) w a w (omega arith) (omega arith) in q (omega (arith, m, few)))
 
+-- in a row that is none of the own ones, place n is set to what lies there: so the first n + 1 places have it
 pub row-set-next : (rule : Rule) (rows cols y n : ℕ) (old values : List ℤ) (v : ℤ) (at : ℕ) → RowSet rule rows cols y n old values
     → n < with_ends rule cols → length old ≡ with_ends rule rows * with_ends rule cols → length values ≡ length old → 0 < rows → y < with_ends rule rows
     → ((row : ℕ) → row < rows → rule.weights.reach + row ≡ y → ⊥)
@@ -63,8 +67,10 @@ pub record RowsSet (rule : Rule) (rows cols from n : ℕ) (old values : List ℤ
       get_or values (y * with_ends rule cols + x) (pos 0) ≡ end_or rule rows (λ row. row_value rule cols old row x) y
   pub below : (k : ℕ) → k < from * with_ends rule cols → get_or values k (pos 0) ≡ get_or old k (pos 0)
   pub above : (k : ℕ) → n * with_ends rule cols ≤ k → get_or values k (pos 0) ≡ get_or old k (pos 0)
+  -- each value is in range
   pub limits : All IsValue values
 
+-- row n, of rows among which no own one is, is set as a whole: so the rows from `from` up to n + 1 are
 pub rows-set-next : (rule : Rule) (rows cols from to n : ℕ) (old values next : List ℤ) → RowsSet rule rows cols from n old values
     → from ≤ n → n < to → 0 < rows
     → ((row : ℕ) → row < rows → from ≤ rule.weights.reach + row → rule.weights.reach + row < to → ⊥)
@@ -150,6 +156,7 @@ cell-or-edge g edge (Some row) (Some col) = refl
 cell-or-edge g edge (Some row) None = refl
 cell-or-edge g edge None p = refl
 
+-- what lies in row y and column x, with ends, is what the grid holds at y and x less the reach
 pub read-is : (g : Plane) (rule : Rule) (y x : ℕ)
     → end_or rule g.rows (λ row. end_or rule g.cols (cell g row) x) y ≡ read g rule (pos y -ℤ pos rule.weights.reach) (pos x -ℤ pos rule.weights.reach)
 unfolding read
@@ -169,6 +176,7 @@ window-met g rule row col a b values padded long h l p q =
     get_or-chunk (row * w) ((2 * rule.weights.reach + 1) * w) values (a * w + (col + b)) (pos 0) size
     ∙ (ap (λ k. get_or values k (pos 0)) place ∙ (padded (row + a) (col + b) (omega arith) (omega arith) ∙ read-is g rule (row + a) (col + b)))
 
+-- the new value that the window round a row gives in a column is the new value of the cell there
 pub new-cell-is : (g : Plane) (rule : Rule) (row col : ℕ) (values : List ℤ) → IsPadded (cell g) rule g.rows g.cols values
     → length values ≡ with_ends rule g.rows * with_ends rule g.cols → row < g.rows → col < g.cols
     → new_at rule (chunk (row * with_ends rule g.cols) ((2 * rule.weights.reach + 1) * with_ends rule g.cols) values) (with_ends rule g.cols) col ≡ new_cell g rule row col
@@ -208,6 +216,7 @@ pub start-is : (rule : Rule) (row r n cols : ℕ) (at : ℕ) → at ≡ (r + row
     → at ≡ (rule.weights.reach + row) * with_ends rule cols
 start-is rule row r n cols at e f g = e ∙ (ap (λ k. (k + row) * (n + 2 * k)) f ∙ ap (λ k. (rule.weights.reach + row) * (k + 2 * rule.weights.reach)) g)
 
+-- an own row starts within the padded grid
 pub start-room : (rule : Rule) (rows cols row at size : ℕ) → at ≡ (rule.weights.reach + row) * with_ends rule cols → row < rows
     → size ≡ with_ends rule rows * with_ends rule cols → at ≤ size
 start-room rule rows cols row at size e h long =
@@ -235,8 +244,10 @@ window-is rule row r cols at count end values e f g h =
 
 -- the first n cells of a row of the grid are these values, and the rows before it are as they were
 pub record RowTaken (old grid : Plane) (row n : ℕ) (cells : List ℤ) : Type 0 where
+  -- the size is the old one
   pub rows : grid.rows ≡ old.rows
   pub cols : grid.cols ≡ old.cols
+  -- the grid keeps the limits
   pub plane : IsPlane grid
   pub done : (k : ℕ) → k < n → get_or grid.values (row * old.cols + k) (pos 0) ≡ get_or cells k (pos 0)
   pub below : (k : ℕ) → k < row * old.cols → get_or grid.values k (pos 0) ≡ get_or old.values k (pos 0)
@@ -253,6 +264,7 @@ own-cell g rule rows cols row col values padded h l e =
 abbrev pub TakenBelow : Plane → Plane → ℕ → Type 0
 TakenBelow g grid n = (k : ℕ) → k < n * g.cols → get_or grid.values k (pos 0) ≡ get_or g.values k (pos 0)
 
+-- with an own row of the padded grid copied to its place, one more row of the grid is that of g
 pub taken-next : (g : Plane) (rule : Rule) (rows cols row start : ℕ) (values : List ℤ) (grid new : Plane) → g.cols ≡ cols → grid.cols ≡ cols
     → IsPadded (cell g) rule rows cols values → row < rows
     → start ≡ (rule.weights.reach + row) * with_ends rule cols + rule.weights.reach
@@ -275,6 +287,7 @@ taken-next g rule rows cols row start values grid new e f padded h place done ea
     ap (λ j. get_or new.values j (pos 0)) (sym back) ∙ (each col few ∙ (get_or-chunk start cols values col (pos 0) narrow
     ∙ (ap (λ j. get_or values j (pos 0)) at ∙ (own-cell g rule rows cols row col values padded h narrow e ∙ ap (λ j. get_or g.values j (pos 0)) there)))))
 
+-- grids of the same size with the same values are equal
 pub plane-same : (g grid : Plane) → grid.rows ≡ g.rows → grid.cols ≡ g.cols → length grid.values ≡ length g.values
     → ((k : ℕ) → k < length grid.values → get_or grid.values k (pos 0) ≡ get_or g.values k (pos 0)) → grid ≡ g
 plane-same g grid rows cols long each =

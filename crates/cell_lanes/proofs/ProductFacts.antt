@@ -1,4 +1,5 @@
--- Products with sums, and of three numbers.
+-- Products with sums, and of three numbers: by induction on the first factor, where each step adds or takes the other
+-- one more time.
 use Rattle.std.proofs.Common.{◌≡◌, ◌∙◌, refl, sym, ap, zero, suc, ℤ, pos, negsuc, ◌+ℤ◌, ◌-ℤ◌, ◌*ℤ◌, arith}
 use Rattle.std.proofs.lemmas.Int.{ints}
 use Rattle.std.proofs.Math.IntN.{zero-*ℤ, suc_ℤ-*ℤ, pred_ℤ-*ℤ, *ℤ_comm}
@@ -23,6 +24,7 @@ spread (negsuc zero) a b =
 spread (negsuc (suc n)) a b =
     take-from _ _ _ _ _ _ a b (spread (negsuc n) a b) (pred_ℤ-*ℤ (negsuc n) (a +ℤ b)) (pred_ℤ-*ℤ (negsuc n) a) (pred_ℤ-*ℤ (negsuc n) b)
 
+-- a sum times a number is the sum of both products
 pub spread-left : (a b m : ℤ) → (a +ℤ b) *ℤ m ≡ a *ℤ m +ℤ b *ℤ m
 spread-left a b m = *ℤ_comm (a +ℤ b) m ∙ (spread m a b ∙ λ i. *ℤ_comm m a i +ℤ *ℤ_comm m b i)
 

@@ -1,4 +1,5 @@
--- Weights that are written into lanes one by one, and weights that are found to be mirrored.
+-- Weights that are written into lanes one by one, and weights that are found to be mirrored: equal bits are equal
+-- weights.
 use Rattle.std.proofs.Common.{◌≡◌, ◌∙◌, refl, sym, ap, subst, inl, inr, ℕ, ◌+◌, ◌-◌, ◌*◌, ◌<◌, ◌≤◌, ℤ, pos, to_z, of_z, w64, Bool, List, [], ◌∷◌, length, map, replicate, get_or, set, get_or-set_other, get_or-set_same, length-set, arith}
 use Rattle.std.specs.List.{All}
 use Rattle.std.specs.Simd.Lanes.{chunk, Each1}
@@ -24,7 +25,9 @@ place-small s a b small p q =
 
 -- the first n weights stand in both lanes
 pub record IsReadyBelow (w : Square) (lanes : List ℤ) (n : ℕ) : Type 0 where
+  -- there is room for 25 weights
   pub lanes_length : length lanes ≡ 50
+  -- each lane is in the range of a weight
   pub limits : All IsWeight lanes
   pub both_lanes : (k i : ℕ) → k < n → i < 2 → get_or lanes (2 * k + i) (pos 0) ≡ get_or w.values k (pos 0)
 
@@ -103,6 +106,7 @@ loaded-weight w lanes mirrored reach a b ready same p q =
     let whole = back (weight w a b) (weight-limits w lanes mirrored a b ready p q) in
     rw same (rw loaded (λ i. whole i ∷ whole i ∷ []))
 
+-- both lanes of a weight, as they are loaded, are in the range of a weight
 pub loaded-limits : (w : Square) (lanes : List ℤ) (mirrored : Bool) (reach a b : ℕ) → AreReady w lanes mirrored → reach ≡ w.reach → a < side w → b < side w
     → Each1 IsWeight (map (to_z w64) (map (of_z w64) (chunk (2 * (a * (2 * reach + 1) + b)) 2 lanes)))
 loaded-limits w lanes mirrored reach a b ready same p q =

@@ -1,4 +1,5 @@
--- A product with a reciprocal gives the quotient.
+-- A product with a reciprocal gives the quotient. The reciprocal times the divisor is below a power of two by at most
+-- the divisor, and for the sums that occur this error never reaches the next quotient.
 use Rattle.std.proofs.lemmas.Int.{ints, to_z-of_z, fits_signed_from_abs}
 use Rattle.stencil_def.specs.Limits.{IsDiv}
 use Rattle.std.proofs.Common.{◌≡◌, ◌∙◌, sym, ap, subst, pow-add, inl, inr, ℤ, pos, negsuc, unsigned_abs, to_z, of_z, w64, ℕ, ◌+◌, ◌-◌, ◌*◌, ◌/◌, ◌%◌, ◌^◌, ◌<◌, ◌≤◌, arith}
@@ -43,6 +44,7 @@ divided a d m k r small =
 pub made-below : (v n : ℕ) → 1 ≤ n → (n - 1) / v * v < n
 made-below v n h = let low = div-mul-le_self (n - 1) v in omega (arith, low)
 
+-- one more than it, times v, is at least n
 pub made-next : (v n : ℕ) → 1 ≤ v → 1 ≤ n → n ≤ ((n - 1) / v + 1) * v
 made-next v n h g = let high : n - 1 < (n - 1) / v * v + v = lt-div-mul-add h in omega (arith, high)
 
@@ -66,9 +68,11 @@ pub size-of : (z : ℤ) → IsDiv z → (1 ≤ unsigned_abs z) × (unsigned_abs 
 size-of (pos n) h = let a = h.0 in let b = h.1 in (omega (arith, ints, a), omega (arith, ints, b))
 size-of (negsuc n) h = let a = h.0 in absurd (omega (arith, ints, a))
 
+-- a divisor comes back from its 64 bits
 pub divisor-back : (z : ℤ) → IsDiv z → to_z w64 (of_z w64 z) ≡ z
 divisor-back z h = let s = (size-of z h).1 in to_z-of_z w64 z (fits_signed_from_abs w64 z (omega arith))
 
+-- a divisor, taken from its 64 bits, is from 1 to 1,000,000 in size
 pub cast-size : (z : ℤ) → IsDiv z → (1 ≤ unsigned_abs (to_z w64 (of_z w64 z))) × (unsigned_abs (to_z w64 (of_z w64 z)) ≤ 1000000)
 cast-size z h = rw (divisor-back z h) (size-of z h)
 
@@ -100,5 +104,6 @@ shifted-one k h =
 pub power-small : (d m k : ℕ) → IsReciprocal d m k → 2 ^ k ≤ 1000000
 power-small d m k r = let least = r.least in let most = r.limits.1 in omega arith
 
+-- a divisor that equals the shifted 1 is 2 ^ k
 pub power-is : (d m k : ℕ) → IsReciprocal d m k → d ≡ 1 * 2 ^ k % 4294967296 → pos d ≡ pos (2 ^ k)
 power-is d m k r found = ap pos (found ∙ shifted-one k (power-small d m k r))

@@ -1,4 +1,4 @@
--- A row with ends.
+-- A row with ends. What lies in the ends follows from the row's own values, which storing the ends leaves as they are.
 use Rattle.std.proofs.Common.{◌≡◌, ◌∙◌, refl, sym, ap, subst, ℕ, ◌+◌, ◌-◌, ◌<◌, ◌≤◌, ℤ, pos, negsuc, ◌-ℤ◌, List, ◌++◌, length, take, drop, int_div, length-take-le, get_or, set, get_or-set_same, get_or-set_other, Option, Some, None, IfSome, nat_lt, if◌then◌else◌, Bool, true, false, to_z, of_z, w64, arith}
 use Rattle.std.proofs.lemmas.Int.{ints}
 use Rattle.std.proofs.Math.Nat.{mod-lt, mod-eq_of_lt}
@@ -55,8 +55,10 @@ pub record EndsSet (rule : Rule) (cols from n : ℕ) (old row : List ℤ) : Type
   pub done : (k : ℕ) → from ≤ k → k < n → get_or row k (pos 0) ≡ end_or rule cols (λ col. get_or old (rule.weights.reach + col) (pos 0)) k
   pub below : (k : ℕ) → k < from → get_or row k (pos 0) ≡ get_or old k (pos 0)
   pub above : (k : ℕ) → n ≤ k → get_or row k (pos 0) ≡ get_or old k (pos 0)
+  -- each value is in range
   pub values : All IsValue row
 
+-- place n, of places among which no own one is, is set to what lies there: so those from `from` up to n + 1 have it
 pub ends-next : (rule : Rule) (cols from to n : ℕ) (old row : List ℤ) (v : ℤ) → EndsSet rule cols from n old row
     → from ≤ n → n < to → n < length row → 0 < cols
     → ((x : ℕ) → x < cols → from ≤ rule.weights.reach + x → rule.weights.reach + x < to → ⊥)
@@ -103,6 +105,7 @@ row-cells rule cols r f a b c some e middle first kept last stays x less =
 pub part-length : (row : List ℤ) (r n : ℕ) → r + n ≤ length row → length (take (r + n - r) (drop r row)) ≡ n
 part-length row r n h = let same : r + n - r ≡ n = omega arith in rw same (length-chunk r n row h)
 
+-- the values that are put behind the first r of a row stand from place r on
 pub part-at : (row new rest : List ℤ) (r col : ℕ) → r ≤ length row → col < length new → get_or (take r row ++ (new ++ rest)) (r + col) (pos 0) ≡ get_or new col (pos 0)
 part-at row new rest r col h less =
     let long : length (take r row) ≡ r = length-take-le r row h in

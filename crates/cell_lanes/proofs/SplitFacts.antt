@@ -1,4 +1,5 @@
--- Products by halves: a value is divided into its low 20 bits and the others.
+-- Products by halves: a value is divided into its low 20 bits and the others. The weight times each part is the true
+-- product, and the two products, the one of the high part raised by 20 bits, add up to the whole one.
 use Rattle.std.proofs.Common.{◌≡◌, ◌∙◌, sym, ap, ℕ, ◌+◌, ◌-◌, ◌*◌, ◌/◌, ◌%◌, ◌^◌, ◌<◌, ◌≤◌, ℤ, pos, negsuc, ◌+ℤ◌, ◌*ℤ◌, unsigned_abs, FitsSigned, to_z, of_z, w64, List, [], ◌∷◌, map, length, arith, bit_and}
 use Rattle.std.specs.Int.Signed.{shr_z}
 use Rattle.std.proofs.lemmas.Int.{ints, to_z_pos, fits_signed_from_abs, fits_signed_mul, unsigned_abs-mul, wrapping_mul_onto, int_wrap_fits}
@@ -95,6 +96,7 @@ pub low-fits : (w v : ℤ) → IsWeight w → IsAlike v → FitsSigned w64 (to_z
 low-fits w v p q =
     rw (short-is w p, low-bits v) (fits_signed_mul w64 w (pos (of_z w64 v % 1048576)) 1000 1048576 p (omega arith) (omega arith))
 
+-- the weight times the high part fits a signed word of 64 bits
 pub high-fits : (w v : ℤ) → IsWeight w → IsAlike v → FitsSigned w64 (to_z w64 (short_bits (of_z w64 w)) *ℤ to_z w64 (high_bits (of_z w64 v)))
 high-fits w v p q =
     rw (short-is w p, high-bits v q) (fits_signed_mul w64 w (shr_z v 1048576) 1000 4000000 p (high-small v q) (omega arith))
@@ -119,6 +121,7 @@ high-product w v p q =
     let size = high-product-size w v p q in
     rw (short-is w p, high-bits v q) (back (w *ℤ shr_z v 1048576) (omega arith))
 
+-- the product of the high part, raised by 20 bits, fits a signed word of 64 bits
 pub raised-fits : (w v : ℤ) → IsWeight w → IsAlike v → FitsSigned w64 (to_z w64 (high_product (of_z w64 w) (of_z w64 v)) *ℤ to_z w64 1048576)
 raised-fits w v p q =
     rw (high-product w v p q) (fits_signed_mul w64 (w *ℤ shr_z v 1048576) (pos 1048576) 4000000000 1048576 (high-product-size w v p q) (omega arith) (omega arith))
@@ -130,6 +133,7 @@ spread-parts w h l m =
     let three = associate w h m in
     omega (arith, ints, whole, three)
 
+-- a weight times a sum of at most four values is at most 4 * 10^15 in size
 pub product-alike : (w v : ℤ) → IsWeight w → IsAlike v → unsigned_abs (w *ℤ v) ≤ 4000000000000000
 product-alike w v p q =
     let m = mul-le (unsigned_abs w) (unsigned_abs v) 1000 4000000000000 p q in
@@ -150,12 +154,14 @@ parts-sum w v p q =
     rw (high-product w v p q, short-is w p, low-bits v, back (w *ℤ l) (omega arith), back (w *ℤ h *ℤ pos 1048576) (omega arith))
     (spread-parts w h l (pos 1048576) ∙ ap (λ z. w *ℤ z) (sym (parts-are v small)))
 
+-- the sum of the two products fits a signed word of 64 bits
 pub sum-fits : (w v : ℤ) → IsWeight w → IsAlike v
     → FitsSigned w64 (to_z w64 (low_product (of_z w64 w) (of_z w64 v)) +ℤ to_z w64 (raised_product (of_z w64 w) (of_z w64 v)))
 sum-fits w v p q =
     let size = product-alike w v p q in
     rw (parts-sum w v p q) (fits_signed_from_abs w64 (w *ℤ v) (omega arith))
 
+-- the sum of the two products, as the code adds them, is the weight times the value
 pub sum-is : (w v : ℤ) → IsWeight w → IsAlike v
     → to_z w64 (of_z w64 (to_z w64 (low_product (of_z w64 w) (of_z w64 v)) +ℤ to_z w64 (raised_product (of_z w64 w) (of_z w64 v)))) ≡ w *ℤ v
 sum-is w v p q =
@@ -205,20 +211,25 @@ high_products ws vs = zip2 bits_product (shorts ws) (highs vs)
 abbrev pub raised_products : List ℤ → List ℤ → List ℕ
 raised_products ws vs = zip2 bits_product (high_products ws vs) (1048576 ∷ 1048576 ∷ [])
 
+-- in both lanes the weight times the low part fits a signed word of 64 bits
 pub lows-fit : (ws vs : List ℤ) → Two ws vs → Each1 IsWeight ws → Each1 IsAlike vs → ProductsFit (shorts ws) (lows vs)
 lows-fit = by-lanes (λ ws vs. ProductsFit (shorts ws) (lows vs)) (λ a b c d p q r s. (low-fits a c p r, (low-fits b d q s, tt)))
 
+-- in both lanes the weight times the high part fits a signed word of 64 bits
 pub highs-fit : (ws vs : List ℤ) → Two ws vs → Each1 IsWeight ws → Each1 IsAlike vs → ProductsFit (shorts ws) (highs vs)
 highs-fit = by-lanes (λ ws vs. ProductsFit (shorts ws) (highs vs)) (λ a b c d p q r s. (high-fits a c p r, (high-fits b d q s, tt)))
 
+-- in both lanes the product of the high part, raised by 20 bits, fits a signed word of 64 bits
 pub raised-fit : (ws vs : List ℤ) → Two ws vs → Each1 IsWeight ws → Each1 IsAlike vs → ProductsFit (high_products ws vs) (1048576 ∷ 1048576 ∷ [])
 raised-fit = by-lanes (λ ws vs. ProductsFit (high_products ws vs) (1048576 ∷ 1048576 ∷ [])) (λ a b c d p q r s. (raised-fits a c p r, (raised-fits b d q s, tt)))
 
+-- in both lanes the sum of the two products fits a signed word of 64 bits
 pub sums-fit : (ws vs : List ℤ) → Two ws vs → Each1 IsWeight ws → Each1 IsAlike vs
     → Each2 (λ (a b : ℕ). FitsSigned w64 (to_z w64 a +ℤ to_z w64 b)) (low_products ws vs) (raised_products ws vs)
 sums-fit = by-lanes (λ ws vs. Each2 (λ (a b : ℕ). FitsSigned w64 (to_z w64 a +ℤ to_z w64 b)) (low_products ws vs) (raised_products ws vs))
     (λ a b c d p q r s. (sum-fits a c p r, (sum-fits b d q s, tt)))
 
+-- what the sum of the two vectors of products gives as bits stands for the weights times the values
 pub sums-are : (ws vs : List ℤ) → Two ws vs → Each1 IsWeight ws → Each1 IsAlike vs
     → map (to_z w64) (zip2 bits_sum (low_products ws vs) (raised_products ws vs)) ≡ zip2 (λ w v. w *ℤ v) ws vs
 sums-are = by-lanes (λ ws vs. map (to_z w64) (zip2 bits_sum (low_products ws vs) (raised_products ws vs)) ≡ zip2 (λ w v. w *ℤ v) ws vs)

@@ -1,13 +1,15 @@
--- Vectors of two lanes.
+-- Vectors of two lanes: each is written as f 0 and f 1, so a fact of each value of f is one of both lanes.
 use Rattle.std.proofs.Common.{◌≡◌, ◌∙◌, refl, subst, ℕ, zero, suc, ◌+◌, ◌≤◌, ◌<◌, ◌^◌, ℤ, pos, ◌+ℤ◌, ◌*ℤ◌, unsigned_abs, to_z, of_z, w64, List, [], ◌∷◌, map, length, get_or, arith}
 use Rattle.std.proofs.lemmas.Simd.{length-chunk, get_or-chunk}
 use Rattle.std.specs.Simd.Lanes.{zip2, Each1, chunk}
 use Rattle.cell_lanes.specs.Lanes.{two}
 use Rattle.cell_lanes.proofs.LaneFacts.{back}
 
+-- functions of the same values make the same two lanes
 pub two-same : (f g : ℕ → ℤ) → ((k : ℕ) → f k ≡ g k) → two f ≡ two g
 two-same f g e = λ i. two (λ k. e k i)
 
+-- a fact of each value of f holds in both lanes
 pub two-all : (P : ℤ → Type 0) (f : ℕ → ℤ) → ((k : ℕ) → P (f k)) → Each1 P (two f)
 two-all P f h = (h 0, (h 1, tt))
 
@@ -27,6 +29,7 @@ chunk-two xs at h =
     let one : (k : ℕ) → k < 2 → get_or (chunk at 2 xs) k (pos 0) ≡ get_or xs (at + k) (pos 0) = λ k lt. get_or-chunk at 2 xs k (pos 0) lt in
     list-two (chunk at 2 xs) (length-chunk at 2 xs h) ∙ (λ i. one 0 (omega arith) i ∷ one 1 (omega arith) i ∷ [])
 
+-- lane k holds f k
 pub two-at : (f : ℕ → ℤ) (k : ℕ) → k < 2 → get_or (two f) k (pos 0) ≡ f k
 two-at f zero h = refl
 two-at f (suc zero) h = refl
@@ -56,6 +59,7 @@ pub each-bits : (P : ℤ → Type 0) (vs : List ℤ) (f : ℕ → ℤ) → vs �
     → Each1 P (map (to_z w64) (map (of_z w64) vs))
 each-bits P vs f e h small = each-two P (map (to_z w64) (map (of_z w64) vs)) f (two-back vs f e small) h
 
+-- a vector of two lanes, taken from its bits, has two lanes
 pub long-bits : (vs : List ℤ) (f : ℕ → ℤ) → vs ≡ two f → length (map (to_z w64) (map (of_z w64) vs)) ≡ 2
 long-bits vs f e = rw e refl
 

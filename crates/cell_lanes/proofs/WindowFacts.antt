@@ -1,4 +1,5 @@
--- Sums over a window, and how great they are.
+-- Sums over a window, and how great they are. Both lanes go through the weights in one order, and with each weight or
+-- row the limit of the sum so far grows by that of one more summand.
 use Rattle.std.proofs.Common.{◌≡◌, ◌∙◌, sym, ap, ℕ, ◌+◌, ◌*◌, ◌≤◌, ◌<◌, ℤ, pos, ◌+ℤ◌, ◌*ℤ◌, unsigned_abs, List, map, length, get_or, set, get_or-set_same, get_or-set_other, subst, ◌-◌, int_div, to_z, of_z, w64, inl, inr, arith}
 use Rattle.std.specs.Simd.Lanes.{zip2, chunk, put_chunk}
 use Rattle.std.proofs.lemmas.Simd.{get_or-put_chunk_below, get_or-put_chunk_at}
@@ -38,6 +39,7 @@ row_below w window width x a n = sum_below n (λ b. product_at w window width x 
 abbrev pub rows_below : Square → List ℤ → ℕ → ℕ → ℕ → ℤ
 rows_below w window width x n = sum_below n (λ a. row_sum_at w window width x a)
 
+-- where the sum over n weights of a row is at most n * 10^15 in size, that over n + 1 is at most (n + 1) * 10^15
 pub row-more : (w : Square) (window : List ℤ) (width x a n : ℕ) (t : ℤ) → t ≡ weight w a n → IsWeight t → All IsValue window
     → unsigned_abs (row_below w window width x a n) ≤ n * 1000000000000000
     → unsigned_abs (row_below w window width x a (n + 1)) ≤ (n + 1) * 1000000000000000
@@ -87,6 +89,7 @@ rows-next w window width x n sums row total is small few new plus =
     added sums row total (λ i. rows_below w window width (x + i) n) (λ i. row_sum_at w window width (x + i) n)
     (λ i. rows_below w window width (x + i) (n + 1)) is new (λ i. sym (more i)) (λ i. let s = small i in omega arith) plus
 
+-- where the sum over n rows is at most n * 5 * 10^15 in size, that over n + 1 is at most (n + 1) * 5 * 10^15
 pub rows-more : (w : Square) (window : List ℤ) (width x n : ℕ) → IsRowSum (row_sum_at w window width x n)
     → unsigned_abs (rows_below w window width x n) ≤ n * 5000000000000000
     → unsigned_abs (rows_below w window width x (n + 1)) ≤ (n + 1) * 5000000000000000
