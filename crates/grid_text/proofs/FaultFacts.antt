@@ -1,4 +1,5 @@
--- What it says of rows and fields that they have no fault.
+-- What it says of rows and fields that they have no fault: their list of faults is empty, so each of its tests is
+-- false.
 use Rattle.std.proofs.Common.{◌≡◌, ℕ, ◌+◌, ◌*◌, ◌≤◌, Bool, true, false, ℤ, pos, unsigned_abs, List, [], ◌∷◌, length, map, Result, Ok, Err, refl, sym, arith}
 use Rattle.std.proofs.Common.{inl, inr}
 use Rattle.std.specs.Prelude.{◌⊎◌, unwrap_or, not, ◌==◌}
@@ -26,6 +27,7 @@ field-ok limit row col field text z t e =
     let o = within-ok limit (signed_of (bare field)) z e' in
     (rw (← e') refl, rw o.0 refl)
 
+-- a field whose number has no form of a number, or isn't within the limit, has this fault alone
 pub field-err : (limit row col : ℕ) (field text : List ℕ) (f : NumberFault) → text ≡ bare field → Err f ≡ within limit (signed_of text)
     → field_faults limit row col field ≡ number_faults row col (Err f)
 unfolding field_faults
@@ -56,6 +58,7 @@ test-false : (test : Bool) (f : TextFault) → when test f ≡ [] → test ≡ f
 test-false true f e = cc e
 test-false false f e = refl
 
+-- where a row's shape has no fault, it has as many fields as row 1
 pub shape-same : (kind : TextKind) (c row count : ℕ) → shape_faults kind c row count ≡ [] → count ≡ c
 shape-same Grid c row count e =
     let both = append-none (when (is_too_large c row) (fault.TooLarge row)) _ e in
@@ -65,6 +68,7 @@ shape-same Weights c row count e =
     let t = test-false (is_bad_weights c row count) (fault.BadWeights row) e in
     grind (arith, nat_tests)
 
+-- where the shape of a grid's row has no fault, there are at most 4,096 columns and rows, and 1,000,000 cells up to it
 pub grid-small : (c row count : ℕ) → shape_faults Grid c row count ≡ [] → (c ≤ 4096) × (row ≤ 4096) × (row * c ≤ 1000000)
 grid-small c row count e =
     let both = append-none (when (is_too_large c row) (fault.TooLarge row)) _ e in
@@ -74,6 +78,7 @@ grid-small c row count e =
     large : (c row : ℕ) → is_too_large c row ≡ false → (c ≤ 4096) × (row ≤ 4096) × (row * c ≤ 1000000)
     large c row t = (grind (arith, nat_tests), grind (arith, nat_tests), grind (arith, nat_tests))
 
+-- where the shape of a row of weights has no fault, there are 3 or 5 columns, and no more rows than that up to it
 pub weights-small : (c row count : ℕ) → shape_faults Weights c row count ≡ [] → ((c ≡ 3) ⊎ (c ≡ 5)) × (row ≤ c)
 weights-small c row count e =
     let t = test-false (is_bad_weights c row count) (fault.BadWeights row) e in
@@ -82,6 +87,7 @@ weights-small c row count e =
     bad : (c row count : ℕ) → is_bad_weights c row count ≡ false → ((c ≡ 3) ⊎ (c ≡ 5)) × (row ≤ c)
     bad c row count t = (grind (arith, nat_tests), grind (arith, nat_tests))
 
+-- where a row's shape has no fault, there are at most 4,096 rows up to it and at most 4,096 columns
 pub shape-few : (kind : TextKind) (c row count : ℕ) → shape_faults kind c row count ≡ [] → (row ≤ 4096) × (c ≤ 4096)
 shape-few Grid c row count e = let s = grid-small c row count e in (s.1, s.0)
 shape-few Weights c row count e =
@@ -111,10 +117,12 @@ rows-limit kind c n (fields ∷ rest) e =
     let parts = append-none (shape_faults kind c n (length fields)) _ both.0 in
     All-append (λ z. unsigned_abs z ≤ limit_of kind) (map value_of fields) _ (fields-limit (limit_of kind) n 1 fields parts.1) (rows-limit kind c (n + 1) rest both.1)
 
+-- rows without a fault have as many values as rows times columns
 pub values-length : (kind : TextKind) (rows : List (List (List ℕ))) → rows_faults kind rows ≡ [] → length (values_of rows) ≡ length rows * width rows
 unfolding rows_faults values_of
 values-length kind rows e = rows-length kind (width rows) 1 rows e
 
+-- the values of rows without a fault are within the limit of their kind
 pub values-limit : (kind : TextKind) (rows : List (List (List ℕ))) → rows_faults kind rows ≡ [] → All (λ z. unsigned_abs z ≤ limit_of kind) (values_of rows)
 unfolding rows_faults values_of
 values-limit kind rows e = rows-limit kind (width rows) 1 rows e

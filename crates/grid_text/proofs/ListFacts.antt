@@ -1,4 +1,5 @@
--- Fields of a record, and lists of faults.
+-- Fields of a record, and lists of faults: the first of a list stays the first with more behind it, and where it is
+-- empty the first is that of what stands behind it.
 use Rattle.std.proofs.Common.{◌≡◌, ℕ, zero, suc, ◌+◌, ◌<◌, ◌≤◌, List, [], ◌∷◌, ◌++◌, length, take, drop, Some, None, refl, sym, ap, ◌∙◌, arith, append_assoc}
 use Rattle.std.specs.Prelude.{slice_get, Result, Ok, Err, OnOk}
 use Rattle.std.specs.List.{enumerate_from, flat_map}
@@ -18,6 +19,7 @@ field-within [] i x e = cc e
 field-within (f ∷ fs) zero x e = omega arith
 field-within (f ∷ fs) (suc i) x e = let n = field-within fs i x e in omega arith
 
+-- the fields up to one that is there are those before it, and then it
 pub field-taken : (fields : List (List ℕ)) (i : ℕ) (x : List ℕ) → Some x ≡ field_at fields i → take (i + 1) fields ≡ take i fields ++ x ∷ []
 field-taken fields i x e =
     let within = field-within fields i x e in
@@ -30,14 +32,17 @@ field-past [] i e = omega arith
 field-past (f ∷ fs) zero e = cc e
 field-past (f ∷ fs) (suc i) e = let n = field-past fs i e in omega arith
 
+-- where two lists one behind the other are empty, both are
 pub append-none : {A : Type 0} (xs ys : List A) → xs ++ ys ≡ [] → (xs ≡ []) × (ys ≡ [])
 append-none [] ys e = (refl, e)
 append-none (x ∷ xs) ys e = cc e
 
+-- a list without a first element is empty
 pub first-none : {A : Type 0} (xs : List A) → slice_get xs 0 ≡ None → xs ≡ []
 first-none [] e = refl
 first-none (x ∷ xs) e = cc e
 
+-- the first element of a list is also the first with another list behind it
 pub first-append : {A : Type 0} (xs ys : List A) (x : A) → slice_get xs 0 ≡ Some x → slice_get (xs ++ ys) 0 ≡ Some x
 first-append [] ys x e = cc e
 first-append (y ∷ xs) ys x e = e
@@ -49,6 +54,7 @@ enumerate_from-append {A} n (x ∷ xs) ys =
     let e : n + suc (length xs) ≡ n + 1 + length xs = omega arith in
     rw e (ap (λ (rest : List (ℕ × A)). (n, x) ∷ rest) (enumerate_from-append (n + 1) xs ys))
 
+-- the faults of items, and of more behind them: first those of the ones, then those of the others, counted on
 pub numbered-append : {A : Type 0} (faults : ℕ → A → List TextFault) (xs ys : List A)
     → numbered faults (xs ++ ys) ≡ numbered faults xs ++ flat_map (λ p. faults p.0 p.1) (enumerate_from (1 + length xs) ys)
 numbered-append faults xs ys =
@@ -88,6 +94,7 @@ field-none-more limit row i fields field none e f =
     let len : length (take i fields) ≡ i = length-take-le i fields (omega arith) in
     rw (field-taken fields i field e) (numbered-push (field_faults limit row) (take i fields) field none ∙ rw len f)
 
+-- the value of the next field, pushed behind those of the first i, makes those of the first i + 1
 pub values-more : (old now new : List ℤ) (v : ℤ) (i : ℕ) (fields : List (List ℕ)) (field : List ℕ)
     → now ≡ old ++ map value_of (take i fields) → Some field ≡ field_at fields i → v ≡ value_of field → new ≡ now ++ v ∷ []
     → new ≡ old ++ map value_of (take (i + 1) fields)

@@ -1,4 +1,5 @@
--- One more number of a row, one more row, and one more cell.
+-- One more number of a row, one more row, and one more cell: what the first i make, with the part of the next behind
+-- it, is what the first i + 1 make.
 use Rattle.std.proofs.Common.{◌≡◌, ℕ, zero, suc, ◌+◌, ◌*◌, ◌^◌, ◌<◌, ◌≤◌, false, ℤ, pos, ◌+ℤ◌, ◌*ℤ◌, unsigned_abs, to_z, of_z, List, [], ◌∷◌, ◌++◌, length, map, take, get_or, refl, sym, ap, ◌∙◌, arith, append_assoc}
 use mir.Syntax.{w128}
 use Rattle.std.proofs.Math.Nat.{mul-le-mul_left}
@@ -31,6 +32,7 @@ row-more values i h =
     rw (take_more values i (pos 0) h, map-append signed_decimal (take i values) (get_or values i (pos 0) ∷ []))
     (rw len at (joined-push (map signed_decimal (take i values)) (signed_decimal (get_or values i (pos 0)))))
 
+-- the comma and the next number, written behind the first i numbers, make the text of the first i + 1
 pub text-more : (old now with_comma new : List ℕ) (values : List ℤ) (i : ℕ) → i < length values
     → now ≡ old ++ join_with_byte 44 (map signed_decimal (take i values)) → with_comma ≡ now ++ comma_before i
     → new ≡ with_comma ++ signed_decimal (get_or values i (pos 0))
@@ -41,6 +43,7 @@ text-more old now with_comma new values i h a b c =
     ∙ (append_assoc old (join_with_byte 44 (map signed_decimal (take i values))) (comma_before i ++ signed_decimal (get_or values i (pos 0)))
     ∙ ap (λ (back : List ℕ). old ++ back) (sym (row-more values i h)))))
 
+-- the n + 1 numbers from a on are the first n of them, and then a + n
 pub range-more : (a n : ℕ) → range_with_len a (n + 1) ≡ range_with_len a n ++ (a + n) ∷ []
 range-more a zero = let e : a + 0 ≡ a = omega arith in rw e refl
 range-more a (suc n) =
@@ -62,9 +65,11 @@ check-more values i h =
     rw (take_more values i (pos 0) h, enumerate_from-append 0 (take i values) (get_or values i (pos 0) ∷ []), len)
     (fold_push (λ (sum : ℤ) (p : ℕ × ℤ). sum +ℤ weighted p.0 p.1) (pos 0) (enumerate_from 0 (take i values)) (i, get_or values i (pos 0)))
 
+-- a number below 2^127 in size comes back from its 128 bits
 pub wide : (z : ℤ) → unsigned_abs z < 2 ^ 127 → to_z w128 (of_z w128 z) ≡ z
 wide z h = to_z-of_z w128 z (fits_signed_from_abs w128 z h)
 
+-- a value at most 1,000 times is at most as many times 10^12 in size
 pub weighted-small : (place : ℕ) (value : ℤ) → place < 1001 → unsigned_abs value ≤ 1000000000000 → unsigned_abs (pos place *ℤ value) ≤ place * 1000000000000
 weighted-small place value p v = rw (unsigned_abs-mul (pos place) value) (omega (arith, mul-le-mul_left place v))
 
@@ -84,6 +89,7 @@ sum-exact s x n a b c =
 three-joined : (old v a w b x d : List ℕ) → ((old ++ (v ++ a)) ++ (w ++ b)) ++ (x ++ d) ≡ old ++ (v ++ a ++ w ++ b ++ x ++ d)
 three-joined old v a w b x d = simp append_assoc
 
+-- the three parts of the first line, as the code writes them one behind the other, make it
 pub head-joined : (old s t u : List ℕ) (x y z : ℤ) (rows cols steps : ℕ) → x ≡ pos rows → y ≡ pos cols → z ≡ pos steps
     → s ≡ old ++ (codes "grid " ++ signed_decimal x) → t ≡ s ++ (codes " " ++ signed_decimal y) → u ≡ t ++ (codes " steps " ++ signed_decimal z)
     → u ≡ old ++ head_text rows cols steps
@@ -94,6 +100,7 @@ head-joined old s t u x y z rows cols steps a b c e f g =
 five-joined : (old v a w b x d y e z : List ℕ) → ((((old ++ (v ++ a)) ++ (w ++ b)) ++ (x ++ d)) ++ (y ++ e)) ++ z ≡ old ++ (v ++ a ++ w ++ b ++ x ++ d ++ y ++ e ++ z)
 five-joined old v a w b x d y e z = simp append_assoc
 
+-- the four lines behind the first and the last LF, as the code writes them one behind the other, make the rest
 pub tail-joined : (old s t u v w : List ℕ) (a b c d : ℤ) (values : List ℤ) → a ≡ total values → b ≡ least values → c ≡ greatest values → d ≡ check_sum values
     → s ≡ old ++ (codes "\nsum " ++ signed_decimal a) → t ≡ s ++ (codes "\nmin " ++ signed_decimal b) → u ≡ t ++ (codes "\nmax " ++ signed_decimal c)
     → v ≡ u ++ (codes "\ncheck " ++ signed_decimal d) → w ≡ v ++ codes "\n" → w ≡ old ++ tail_text values

@@ -1,4 +1,5 @@
--- A printed grid reads back as itself.
+-- A printed grid reads back as itself: its records are its rows, their fields are printed values, which have no fault,
+-- and these read back as the values.
 use Rattle.std.proofs.Common.{◌≡◌, ℕ, zero, suc, ◌+◌, ◌*◌, ◌<◌, ◌≤◌, true, false, ℤ, List, [], ◌∷◌, ◌++◌, length, map, take, drop, Ok, refl, sym, ap, ◌∙◌, arith}
 use Rattle.std.proofs.Math.Seq.{take-add}
 use Rattle.std.specs.Prelude.{◌==◌, nat_lt}
@@ -111,6 +112,7 @@ unfolding grid_text
 records-of-text g h =
     records-back (λ k. row_of g k) g.rows (λ k n. (let len = row-length g k h n in omega (arith, h.cols.0))) (λ k n. row-values g k h)
 
+-- a grid in its limits is what its text reads as
 pub grid-back : (g : Plane) → IsPlane g → grid_of (grid_text g) ≡ Ok g
 unfolding grid_of rows_faults values_of
 grid-back g h =

@@ -1,4 +1,5 @@
--- A printed number reads back as itself.
+-- A printed number reads back as itself: it is digits, with or without a `-` before them, so no space is cut off and
+-- no byte calls for quotes.
 use Rattle.std.proofs.Common.{◌≡◌, ◌≢◌, ℕ, suc, ◌+◌, ◌/◌, ◌%◌, ◌^◌, ◌<◌, ◌≤◌, Bool, true, false, ℤ, pos, negsuc, unsigned_abs, List, [], ◌∷◌, ◌++◌, length, reverse, Some, Ok, refl, ap, arith}
 use Rattle.std.specs.Prelude.{◌==◌, nat_le, nat_lt}
 use Rattle.std.specs.Char.{digit_value, is_ascii_digit}
@@ -82,6 +83,7 @@ sign-none (c ∷ cs) n h =
     let t : (c == 45) ≡ false = grind (arith, nat_tests) in
     rw t refl
 
+-- a printed value reads as that value
 pub signed-read : (z : ℤ) → IsValue z → signed_of (signed_decimal z) ≡ Some z
 unfolding signed_of
 signed-read (pos n) h =
@@ -90,6 +92,7 @@ signed-read (pos n) h =
     rw (sign-none (decimal n) numeral.0.0 numeral.0.1, unsigned-read n (omega arith)) refl
 signed-read (negsuc n) h = rw (unsigned-read (suc n) (omega arith)) refl
 
+-- a printed value has no space at either end
 pub signed-bare : (z : ℤ) → IsValue z → bare (signed_decimal z) ≡ signed_decimal z
 signed-bare (pos n) h =
     let bound : n < 2 ^ 64 = omega arith in
@@ -109,6 +112,7 @@ pub record IsPlain (text : List ℕ) : Type 0 where
   pub begins : text ≡ first ∷ rest
   pub low : first ≤ 57
 
+-- a printed value is such a text
 pub signed-plain : (z : ℤ) → IsValue z → IsPlain (signed_decimal z)
 signed-plain (pos n) h =
     let numeral = decimal_is_IsNumeral n (omega arith) in
@@ -118,6 +122,7 @@ signed-plain (negsuc n) h =
     let numeral = decimal_is_IsNumeral (suc n) (omega arith) in
     record { quiet = digits-plain (decimal (suc n)) numeral.0.1; first = 45; rest = decimal (suc n); begins = refl; low = omega arith }
 
+-- a printed value reads as a number within the limit of a cell
 pub signed-within : (z : ℤ) → IsValue z → Ok z ≡ within 1000000000000 (signed_of (signed_decimal z))
 signed-within z h =
     let t : nat_le (unsigned_abs z) 1000000000000 ≡ true = grind (arith, nat_tests) in

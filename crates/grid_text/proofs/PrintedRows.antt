@@ -1,4 +1,5 @@
--- A printed grid reads back as its rows.
+-- A printed grid reads back as its rows: a printed row is what the default writer of records writes, and the reader
+-- reads that back.
 use Rattle.std.proofs.Common.{◌≡◌, ℕ, zero, suc, ◌+◌, ◌<◌, ◌≤◌, false, ℤ, List, [], ◌∷◌, ◌++◌, length, map, Some, refl, sym, ap, ◌∙◌, arith}
 use Rattle.std.specs.Prelude.{◌==◌}
 use Rattle.std.specs.Fmt.{signed_decimal}

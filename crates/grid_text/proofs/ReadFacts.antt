@@ -1,4 +1,4 @@
--- What rows without a fault make.
+-- What rows without a fault make: the answer is the first fault where there is one, and else what the kept rows make.
 use Rattle.std.proofs.Common.{◌≡◌, ℕ, ◌+◌, ◌*◌, ◌<◌, ◌≤◌, true, false, List, [], ◌∷◌, length, Some, None, Ok, Err, inl, inr, refl, ap, arith}
 use Rattle.std.specs.Prelude.{◌⊎◌, slice_get, nat_lt}
 use Rattle.std.specs.List.{All}
@@ -33,10 +33,12 @@ some-row kind [] e = let first = text-empty kind [] refl in absurd (no e first)
     no e first = let n : slice_get (text_faults kind []) 0 ≡ None = ap (λ (faults : List TextFault). slice_get faults 0) e in cc
 some-row kind (r ∷ rest) e = omega arith
 
+-- a text whose rows have a fault as a grid reads as the first of them
 pub grid-fault : (text : List ℕ) (fault : TextFault) → slice_get (text_faults Grid (records_of text)) 0 ≡ Some fault → grid_of text ≡ Err fault
 unfolding grid_of
 grid-fault text fault e = answer-first _ _ fault e
 
+-- a text whose rows have a fault as weights reads as the first of them
 pub weights-fault : (text : List ℕ) (fault : TextFault) → slice_get (text_faults Weights (records_of text)) 0 ≡ Some fault → weights_of text ≡ Err fault
 unfolding weights_of
 weights-fault text fault e = answer-first _ _ fault (first-append _ _ fault e)
@@ -52,17 +54,21 @@ grid-limits text kept e h =
     let cols = h.cols in
     (omega arith, omega arith, omega arith, omega arith, rw (rows, cols) small.2)
 
+-- kept rows have as many values as rows times columns
 pub values-count : (kind : TextKind) (text : List ℕ) (kept : Rows) → AreKept kind (records_of text) kept → length kept.values.items ≡ kept.rows * kept.cols
 values-count kind text kept h =
     let n = values-length kind (records_of text) h.faultless in
     rw (h.values, h.count, h.cols) n
 
+-- the kept values of a grid are in the range of a cell
 pub grid-values : (text : List ℕ) (kept : Rows) → AreKept Grid (records_of text) kept → All IsValue kept.values.items
 grid-values text kept h = rw h.values (values-limit Grid (records_of text) h.faultless)
 
+-- the kept values of weights are in the range of a weight
 pub weights-values : (text : List ℕ) (kept : Rows) → AreKept Weights (records_of text) kept → All IsWeight kept.values.items
 weights-values text kept h = rw h.values (values-limit Weights (records_of text) h.faultless)
 
+-- a text without a fault reads as the grid of the kept rows
 pub grid-ok : (text : List ℕ) (kept : Rows) → text_faults Grid (records_of text) ≡ [] → AreKept Grid (records_of text) kept
     → grid_of text ≡ Ok (plane_of kept.rows kept.cols kept.values.items)
 unfolding grid_of
@@ -78,6 +84,7 @@ weights-missing text kept e h few =
     let t : nat_lt (length (records_of text)) (width (records_of text)) ≡ true = grind (arith, nat_tests) in
     rw (e, t, rows) refl
 
+-- a text without a fault, with no fewer rows than columns, reads as the weights of the kept values
 pub weights-ok : (text : List ℕ) (kept : Rows) → text_faults Weights (records_of text) ≡ [] → AreKept Weights (records_of text) kept
     → kept.cols ≤ kept.rows → weights_of text ≡ Ok (square_of kept.values.items)
 unfolding weights_of
@@ -92,6 +99,7 @@ square-size : (rows cols n : ℕ) → (cols ≡ 3) ⊎ (cols ≡ 5) → rows ≤
 square-size rows cols n (inl t) a b e = let r : rows ≡ 3 = omega arith in inl (rw (e, r, t) refl)
 square-size rows cols n (inr t) a b e = let r : rows ≡ 5 = omega arith in inr (rw (e, r, t) refl)
 
+-- weights without a fault, with no fewer rows than columns, are 9 or 25
 pub weights-count : (text : List ℕ) (kept : Rows) → text_faults Weights (records_of text) ≡ [] → AreKept Weights (records_of text) kept
     → kept.cols ≤ kept.rows → (length kept.values.items ≡ 9) ⊎ (length kept.values.items ≡ 25)
 weights-count text kept e h few =

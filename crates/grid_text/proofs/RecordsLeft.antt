@@ -1,4 +1,5 @@
--- How the records that a reader has left follow from a read.
+-- How the records that a reader has left follow from a read. Each read that finds a record leaves less than there was,
+-- so more reads than the text has bytes and its end don't change what is read.
 use Rattle.std.proofs.Common.{◌≡◌, ℕ, zero, suc, ◌+◌, ◌<◌, ◌≤◌, Bool, true, false, if◌then◌else◌, List, [], ◌∷◌, ◌++◌, length, Option, Some, None, refl, sym, ap, ◌∙◌, arith}
 use Rattle.std.proofs.lemmas.List.{length-append}
 use Rattle.std.specs.Prelude.{IsSome, is_some, unwrap_or, ◌==◌, ◌||◌}
@@ -125,6 +126,7 @@ left-some s xs p e =
     enough (length xs + 2) (suc (length xs + 2)) s xs here (omega arith) ∙ from-some (length xs + 2) s xs p e
     ∙ ap (λ (rest : List (List (List ℕ))). p.0 ∷ rest) (enough (length xs + 2) (length p.2 + 2) p.1 p.2 (omega arith) there)
 
+-- where a read finds no record, none is left
 pub left-none : (s : State) (xs : List ℕ) → next_record default_config s [] [] xs ≡ None → records_left s xs ≡ []
 left-none s xs e =
     let here = bounded s xs in

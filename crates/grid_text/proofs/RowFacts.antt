@@ -1,4 +1,4 @@
--- One more row behind rows that are kept.
+-- One more row behind rows that are kept: these have no fault, so the first fault of all is the first of the new row.
 use Rattle.std.proofs.Common.{◌≡◌, ℕ, ◌+◌, ◌<◌, true, false, ℤ, List, [], ◌∷◌, ◌++◌, length, map, Some, refl, sym, ap, ◌∙◌, arith}
 use Rattle.std.specs.Prelude.{slice_get, if◌then◌else◌, ◌==◌}
 use Rattle.std.specs.List.{flat_map}
@@ -29,12 +29,14 @@ none-wider : (kind : TextKind) (rows : List (List (List ℕ))) (fields : List (L
 none-wider kind [] fields e = refl
 none-wider kind (r ∷ rest) fields e = e
 
+-- behind rows without a fault, the faults of all are those of the new row
 pub faults-push : (kind : TextKind) (rows : List (List (List ℕ))) (fields : List (List ℕ)) → rows_faults kind rows ≡ []
     → rows_faults kind (rows ++ fields ∷ []) ≡ row_faults kind (width (rows ++ fields ∷ [])) (length rows + 1) fields
 unfolding rows_faults
 faults-push kind rows fields e =
     numbered-push (row_faults kind (width (rows ++ fields ∷ []))) rows fields (none-wider kind rows fields e)
 
+-- the values of a new row stand behind those of the others
 pub values-push : (rows : List (List (List ℕ))) (fields : List (List ℕ)) → values_of (rows ++ fields ∷ []) ≡ values_of rows ++ map value_of fields
 unfolding values_of
 values-push rows fields =
@@ -46,11 +48,13 @@ pub shape-first : (kind : TextKind) (c row : ℕ) (fields : List (List ℕ)) (fa
 unfolding row_faults
 shape-first kind c row fields fault e = first-append (shape_faults kind c row (length fields)) _ fault (sym e)
 
+-- where a row's shape has no fault, the first fault of its fields is its first
 pub fields-first : (kind : TextKind) (c row : ℕ) (fields : List (List ℕ)) (fault : TextFault) → shape_faults kind c row (length fields) ≡ []
     → slice_get (numbered (field_faults (limit_of kind) row) fields) 0 ≡ Some fault → slice_get (row_faults kind c row fields) 0 ≡ Some fault
 unfolding row_faults
 fields-first kind c row fields fault n e = rw n e
 
+-- a row whose shape and whose fields have no fault has none
 pub row-none : (kind : TextKind) (c row : ℕ) (fields : List (List ℕ)) → shape_faults kind c row (length fields) ≡ []
     → numbered (field_faults (limit_of kind) row) fields ≡ [] → row_faults kind c row fields ≡ []
 unfolding row_faults
@@ -83,6 +87,7 @@ push-kept kind before fields old new c row h w n shape faultless a b v =
 pub text-rows : (kind : TextKind) (rows : List (List (List ℕ))) → 0 < length rows → text_faults kind rows ≡ rows_faults kind rows
 text-rows kind rows h = let t : (length rows == 0) ≡ false = grind (arith, nat_tests) in rw t refl
 
+-- the first fault of a text without a row is that it is empty
 pub text-empty : (kind : TextKind) (rows : List (List (List ℕ))) → length rows ≡ 0 → slice_get (text_faults kind rows) 0 ≡ Some fault.Empty
 text-empty kind rows h = let t : (length rows == 0) ≡ true = grind (arith, nat_tests) in rw t refl
 
@@ -93,6 +98,7 @@ unfolding rows_faults
 rows-front kind [] more fault e = cc e
 rows-front kind (r ∷ rest) more fault e = (numbered-front (row_faults kind (length r)) (r ∷ rest) more fault e, omega arith)
 
+-- the first fault of the rows at the front of a text is the first of all of it
 pub text-front : (kind : TextKind) (rows more : List (List (List ℕ))) (fault : TextFault)
     → slice_get (rows_faults kind rows) 0 ≡ Some fault → slice_get (text_faults kind (rows ++ more)) 0 ≡ Some fault
 text-front kind rows more fault e =
