@@ -1,4 +1,5 @@
--- What `clap` reads of the words of the two forms.
+-- What `clap` reads of the words of the two forms: by cases on the first two bytes of a word, and on the first `=`
+-- behind them.
 use Rattle.std.proofs.Common.{◌≡◌, ◌∙◌, ℕ, Bool, true, false, not, ◌&&◌, [], ◌∷◌, length, Option, Some, None, refl, ap, ◌≤◌, ◌+◌, ◌⊎◌, inl, inr, suc, arith}
 use Rattle.std.specs.Prelude.{bytes_eq, ◌==◌, nat_lt}
 use Rattle.std.specs.List.{after_first, before_first, position_or_len}
@@ -9,16 +10,24 @@ use Rattle.clap.specs.Lexer.{has_byte, long_of, short_of}
 
 -- a word `--NAME=VALUE`
 pub record IsJoined (word : Text) (p : Pair) : Type 0 where
+  -- `clap` reads it as a long name with the value
   pub long : long_of word ≡ Some (p.0, Some p.1)
+  -- it isn't `--` alone
   pub dashes : bytes_eq word (45 ∷ 45 ∷ []) ≡ false
 
 -- a word `--NAME`, with a value behind it
 pub record IsPaired (word next : Text) (p : Pair) : Type 0 where
+  -- `clap` reads it as a long name without a value
   pub long : long_of word ≡ Some (p.0, None)
+  -- it isn't `--` alone
   pub dashes : bytes_eq word (45 ∷ 45 ∷ []) ≡ false
+  -- the next word is the value
   pub value : p.1 ≡ next
+  -- which `clap` doesn't read as a long name
   pub no_long : long_of next ≡ None
+  -- nor as short ones
   pub no_short : short_of next ≡ None
+  -- and which isn't `--` alone
   pub no_dashes : bytes_eq next (45 ∷ 45 ∷ []) ≡ false
 
 word-is : (word t : Text) → name_part word ≡ Some t → word ≡ 45 ∷ 45 ∷ t
@@ -70,6 +79,7 @@ joined-text word (x ∷ xs) p w e = by (has_equals (x ∷ xs)) refl (is_empty (a
         let same : (before_first is_equals (x ∷ xs), after_first is_equals (x ∷ xs)) ≡ p = cc in
         record { long = rw (w, has-byte (x ∷ xs), f, ← same) refl; dashes = rw w refl }
 
+-- a word that is `--NAME=VALUE` here is so for `clap`
 pub joined-is : (word : Text) (p : Pair) → joined word ≡ Some p → IsJoined word p
 unfolding joined
 joined-is word p e = by (name_part word) refl e
@@ -108,6 +118,7 @@ paired-text word (y ∷ ys) (x ∷ xs) p w e = by (has_equals (x ∷ xs)) refl (
           no_dashes = rw g refl;
         }
 
+-- two words that are `--NAME VALUE` here are so for `clap`, or the first is `--` alone and the name empty
 pub paired-is : (word next : Text) (p : Pair) → paired word next ≡ Some p → ((word ≡ 45 ∷ 45 ∷ []) × (p.0 ≡ [])) ⊎ IsPaired word next p
 unfolding paired
 paired-is word next p e = by (name_part word) refl e

@@ -1,4 +1,4 @@
--- What the parts of a word say of it.
+-- What the parts of a word say of it: whether it is an option, and with it whether the words from it on are options.
 use Rattle.std.proofs.Common.{◌≡◌, ◌≢◌, ℕ, ◌<◌, Bool, true, false, List, [], ◌∷◌, length, Option, Some, None, refl, sym, ap, arith}
 use Rattle.std.specs.Prelude.{MatchOption, is_some, option_copied, ◌==◌, not, ◌&&◌}
 use Rattle.std.specs.Prelude.{String}
@@ -30,11 +30,13 @@ divided-is text true true e f = rw (e, f) refl
 divided-is text true false e f = rw (e, f) refl
 divided-is text false c e f = rw e refl
 
+-- a text without a `=` isn't divided
 pub divided-none : (text : Text) → position_or_len is_equals text ≡ length text → false ≡ is_some (divided text)
 divided-none text h =
     let t : has_equals text ≡ false = grind (arith, nat_tests) in
     sym (divided-is text false (is_empty (after_first is_equals text)) t refl)
 
+-- a text with a `=` is divided where something stands behind the first one
 pub divided-some : (text value : Text) → position_or_len is_equals text < length text → value ≡ after_first is_equals text
     → not (length value == 0) ≡ is_some (divided text)
 divided-some text value h a =
@@ -46,6 +48,7 @@ some-before : (p : Pair) (o : Option (List Pair)) → is_some (before p o) ≡ i
 some-before p None = refl
 some-before p (Some rest) = refl
 
+-- words with `--NAME=VALUE` at their front are options where the words behind it are
 pub behind-joined : (word : Text) (after : List Text) → is_some (joined word) ≡ true → is_some (options_of (word ∷ after)) ≡ is_some (options_of after)
 unfolding options_of
 behind-joined word [] e = by (joined word) e
@@ -60,6 +63,7 @@ behind-joined word (next ∷ rest) e = by (joined word) e
     by None e = cc e
     by (Some p) e = some-before p (options_of (next ∷ rest))
 
+-- one word alone that isn't `--NAME=VALUE` isn't an option
 pub behind-alone : (word : Text) → is_some (joined word) ≡ false → is_some (options_of (word ∷ [])) ≡ false
 unfolding options_of
 behind-alone word e = by (joined word) e
@@ -68,6 +72,7 @@ behind-alone word e = by (joined word) e
     by None e = refl
     by (Some p) e = cc e
 
+-- words whose first isn't `--NAME=VALUE` are options where the first two are one and the words behind them are
 pub behind-other : (word next : Text) (rest : List Text) → is_some (joined word) ≡ false
     → is_some (options_of (word ∷ next ∷ rest)) ≡ (is_some (paired word next) && is_some (options_of rest))
 unfolding options_of
@@ -79,6 +84,7 @@ behind-other word next rest e = by (joined word) e (paired word next)
     by None e (Some p) = some-before p (options_of rest)
     by (Some p) e o2 = cc e
 
+-- no words have no texts
 pub texts-none : (words : List (String Global)) → length words ≡ 0 → texts words ≡ []
 texts-none [] e = refl
 texts-none (w ∷ ws) e = absurd (omega arith)

@@ -253,14 +253,20 @@ rows-are words = no-defaults _ names
 
 -- what `clap` answers to words of the two forms
 pub record Takes (words : List Text) (options : List Pair) : Type 0 where
+  -- it finds no fault
   pub faultless : fault_of stencil_app words ≡ []
+  -- the options are sound
   pub sound : are_sound options ≡ true
+  -- its matches have their values
   pub values : (n : Text) → first_of n (matches_of stencil_app words) ≡ value options n
 
 pub record Refuses (words : List Text) (options : List Pair) : Type 0 where
+  -- it finds a fault
   pub faulty : fault_of stencil_app words ≡ [] → ⊥
+  -- the options aren't sound
   pub unsound : are_sound options ≡ false
 
+-- `clap` takes words of the two forms, with sound options, or refuses them, with options that aren't sound
 pub reads : (words : List Text) (options : List Pair) → options_of (drop 1 words) ≡ Some options → Takes words options ⊎ Refuses words options
 reads words options e =
     let all : when (is_nil (faults names (between [] None) (drop 1 words))) (matches_of stencil_app words) ≡ option_map rows (when (are_sound options) options) =

@@ -27,18 +27,22 @@ shape ns = record (new_shape (codes "stencil")) {
 
 -- ---- names
 
+-- texts that compare as equal are equal
 pub same-text : (x y : Text) → bytes_eq x y ≡ true → x ≡ y
 same-text x y = (bytes_eq-Decides x y).0
 
+-- a text compares as equal to itself
 pub self-text : (x : Text) → bytes_eq x x ≡ true
 self-text x = (bytes_eq-Decides x x).1 refl
 
+-- a comparison of texts says the same in either order
 pub swap-text : (x y : Text) → bytes_eq x y ≡ bytes_eq y x
 swap-text x y = same_from_decides _ _ (bytes_eq-Decides x y) (Decides-like (bytes_eq y x) sym sym (bytes_eq-Decides y x))
 
 abbrev pub is_among : List Text → Text → Bool
 is_among ns n = list_any (λ x. bytes_eq x n) ns
 
+-- the argument of a long name is found where the name is among the names
 pub long-found : (ns : List Text) (n : Text) → arg_by_long (map known ns) n ≡ when (is_among ns n) (known n)
 long-found [] n = refl
 long-found (x ∷ ns) n = by (bytes_eq x n) refl (long-found ns n)
@@ -48,6 +52,7 @@ long-found (x ∷ ns) n = by (bytes_eq x n) refl (long-found ns n)
     by true e more = rw e (ap (λ (y : Text). Some (known y)) (same-text x n e))
     by false e more = rw e more
 
+-- the argument of an id is found where the id is among the names
 pub id-found : (ns : List Text) (n : Text) → arg_by_id (map known ns) n ≡ when (is_among ns n) (known n)
 id-found [] n = refl
 id-found (x ∷ ns) n = by (bytes_eq x n) refl (id-found ns n)
@@ -57,6 +62,7 @@ id-found (x ∷ ns) n = by (bytes_eq x n) refl (id-found ns n)
     by true e more = rw e (ap (λ (y : Text). Some (known y)) (same-text x n e))
     by false e more = rw e more
 
+-- no argument is found by a place, since none takes a word by its place
 pub index-none : (ns : List Text) (i : ℕ) → arg_by_index (map known ns) i ≡ None
 index-none [] i = refl
 index-none (x ∷ ns) i = index-none ns i
@@ -96,6 +102,7 @@ add done p = when (not (has p.0 done)) (done ++ p ∷ [])
 abbrev pub after_use : List Row → Text → Text → Option (List Row)
 after_use rs n v = when (is_nil (use_fault false (known n) (v ∷ []) rs)) (used (known n) (v ∷ []) rs)
 
+-- one use of an option puts its row behind those of the options so far where none has its name, and else is refused
 pub use-once : (done : List Pair) (n v : Text) → after_use (rows done) n v ≡ option_map rows (add done (n, v))
 use-once done n v = by (has n done) refl
   where

@@ -47,6 +47,8 @@ bind-some : {A : Type 0} (o : Option A) → o ≡ (o >>= λ x. Some x)
 bind-some None = refl
 bind-some (Some x) = refl
 
+-- where the option that waits is known, or none waits, using it makes the rows of the options so far with it, if its
+-- name is new
 pub settles-is : (ns : List Text) (done : List Pair) (p : Option Pair) → is_known ns p ≡ true
     → settles ns (held (rows done) (as_pending p)) ≡ option_map rows (accepted ns done (listed p))
 settles-is ns done None e = refl
@@ -107,11 +109,13 @@ react-by [] uses now u g f = by (uses now)
 
 -- ---- the two forms
 
+-- with an unknown name, `--NAME=VALUE` is refused
 pub joined-unknown : (ns : List Text) (rs : List Row) (pending : Option (Text × List Text)) (word : Text) (p : Pair) (rest : List Text) → IsJoined word p
     → is_among ns p.0 ≡ false → outcome ns (between rs pending) (word ∷ rest) ≡ None
 joined-unknown ns rs pending word p rest j e =
     stops ns (between rs pending) word rest (rw (j.dashes, j.long, long-found ns p.0, e) refl)
 
+-- with a known name, `--NAME=VALUE` first lets the option that waits be used, then is used, and none waits behind it
 pub joined-known : (ns : List Text) (rs : List Row) (pending : Option (Text × List Text)) (word : Text) (p : Pair) (rest : List Text) → IsJoined word p
     → is_among ns p.0 ≡ true → outcome ns (between rs pending) (word ∷ rest)
     ≡ (settles ns (held rs pending) >>= λ r. after_use r p.0 p.1 >>= λ u. outcome ns (between u None) rest)
@@ -124,6 +128,7 @@ joined-known ns rs pending word p rest j e =
     (react-by (settle_fault (map known ns) false (held rs pending)) (use_fault false (known p.0) (p.1 ∷ []))
     (settled_rows (map known ns) pending rs) (used (known p.0) (p.1 ∷ [])) (λ r. between r None) (λ w. outcome ns w rest))
 
+-- with an unknown name, `--NAME VALUE` is refused
 pub paired-unknown : (ns : List Text) (rs : List Row) (pending : Option (Text × List Text)) (word next : Text) (p : Pair) (rest : List Text) → IsPaired word next p
     → is_among ns p.0 ≡ false → outcome ns (between rs pending) (word ∷ rest) ≡ None
 paired-unknown ns rs pending word next p rest j e =
@@ -147,6 +152,7 @@ value-next ns rs word next p rest j e =
     (rw (j.no_dashes, j.no_long, j.no_short, id-found ns p.0, e, self-text p.0, j.value) refl)
     ∙ rw (j.no_dashes, j.no_long, j.no_short) refl
 
+-- with a known name, `--NAME VALUE` first lets the option that waits be used, and then waits itself
 pub paired-known : (ns : List Text) (rs : List Row) (pending : Option (Text × List Text)) (word next : Text) (p : Pair) (rest : List Text) → IsPaired word next p
     → is_among ns p.0 ≡ true → outcome ns (between rs pending) (word ∷ next ∷ rest)
     ≡ (settles ns (held rs pending) >>= λ r. outcome ns (between r (as_pending (Some p))) rest)

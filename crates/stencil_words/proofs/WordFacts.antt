@@ -20,11 +20,13 @@ unfolding stencil_reading
 no-words [] e = refl
 no-words (w ∷ ws) e = absurd (omega arith)
 
+-- words with another command at their front have no reading
 pub other-words : (words rest : List (String Global)) (command : String Global) → words ≡ command ∷ rest
     → bytes_eq (string_bytes command) (codes "stencil") ≡ false → None ≡ stencil_reading (texts words)
 unfolding stencil_reading
 other-words words rest command e t = rw (e, t) refl
 
+-- words behind the command that aren't options have no reading
 pub bad-words : (words rest : List (String Global)) (command : String Global) → words ≡ command ∷ rest
     → false ≡ is_some (options_of (texts rest)) → None ≡ stencil_reading (texts words)
 unfolding stencil_reading reading_of
@@ -39,6 +41,7 @@ unsound-options : (options : List Pair) → are_sound options ≡ false → None
 unfolding reading_of_options
 unsound-options options e = rw e refl
 
+-- words whose options, if they are options, aren't sound have no reading
 pub unsound-words : (words rest : List (String Global)) (command : String Global) → words ≡ command ∷ rest
     → ((options : List Pair) → options_of (drop 1 (texts words)) ≡ Some options → are_sound options ≡ false) → None ≡ stencil_reading (texts words)
 unfolding stencil_reading reading_of
@@ -56,6 +59,7 @@ sound-options : (options : List Pair) (given : Values) → are_sound options ≡
 unfolding reading_of_options
 sound-options options given e h = rw e (λ i. reading_of_values (λ name. h name i))
 
+-- words of the command that are sound options have the reading of the values that were found
 pub good-words : (words rest : List (String Global)) (command : String Global) (given : Values) → words ≡ command ∷ rest
     → bytes_eq (string_bytes command) (codes "stencil") ≡ true → true ≡ is_some (options_of (texts rest))
     → ((options : List Pair) → options_of (drop 1 (texts words)) ≡ Some options
@@ -178,10 +182,12 @@ values-limits given =
     bind-some (source_of given) _ IsRead (λ source e.
     with-limits given source (at-some (source_of given) IsSource source (one-limits (given (codes "grid")) (given (codes "make")) (given (codes "weights"))) e))
 
+-- what is the opposite of true is false
 pub is-false : (b : Bool) → true ≡ not b → b ≡ false
 is-false true e = cc e
 is-false false e = refl
 
+-- what is the opposite of false is true
 pub is-true : (b : Bool) → false ≡ not b → b ≡ true
 is-true true e = refl
 is-true false e = cc e
