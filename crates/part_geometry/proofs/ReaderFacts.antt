@@ -1,4 +1,6 @@
--- What the readers of a geometry know while they walk over its cells, and what follows of their answers.
+-- What the readers of a geometry know while they walk over its cells, and what follows of their answers. Pieces count
+-- up from cell to cell, so the cells before a piece, and those up to its last, are found by comparing the piece of each
+-- cell with it.
 use Rattle.std.proofs.Common.{◌≡◌, Some, None, refl, ◌↔◌, ℕ, zero, suc, ◌+◌, ◌-◌, ◌*◌, ◌/◌, ◌^◌, ◌<◌, ◌≤◌, min, add-one, ap, ◌∙◌, arith, inl, inr}
 use Rattle.std.specs.Int.{IsBitSet}
 use Rattle.std.proofs.lemmas.Bool.{cases_lt, le-ltb, lt-ltb, cond-false}

@@ -1,5 +1,5 @@
--- The numbers of the cells in three rows: by send partition, by receive partition and by piece. Each row counts up
--- from 0 by steps of at most 1.
+-- The numbers of the cells in three rows: by send partition, by receive partition and by piece. Each row counts up from
+-- 0 by steps of at most 1, so it takes each number below its count.
 use Rattle.std.proofs.Common.{◌≡◌, ℕ, zero, suc, add-zero, ◌+◌, ◌-◌, ◌*◌, ◌<◌, ◌≤◌, ap, arith, inl, inr}
 use Rattle.std.proofs.lemmas.Bool.{cases_lt}
 use Rattle.part_geometry.specs.Shape.{Shape, IsShape}

@@ -1,5 +1,6 @@
--- The facts that a pair uses of its geometry: the cells of partitions and pieces, and the bytes of cells. All hold of
--- a geometry within its limits.
+-- The facts that a pair uses of its geometry: the cells of partitions and pieces, and the bytes of cells. All hold of a
+-- geometry within its limits. They are put together here, in one form for both sides, from what the other files prove
+-- of rows of cells and of bytes by place.
 use Rattle.std.proofs.Common.{◌≡◌, ◌↔◌, ℕ, suc, add-zero, ◌+◌, ◌-◌, ◌*◌, ◌<◌, ◌≤◌, List, [], ◌∷◌, ◌++◌, length, get_or, ap, ◌∙◌, arith}
 use Rattle.std.specs.List.{flat_map}
 use Rattle.std.proofs.lemmas.List.FromFn.{length-map-range_with_len, get_or-map-range_with_len}

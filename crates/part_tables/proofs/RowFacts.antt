@@ -1,5 +1,6 @@
 -- The bytes of cells in a row, put together: those of a receive partition's cells are the partition's, and cuts of a
--- send partition's bytes are those bytes. `Each k xs` says of a list what its items have of the cells k, k + 1 and so on.
+-- send partition's bytes are those bytes. By induction over the list, as each cell starts where the one before ends.
+-- `Each k xs` says of a list what its items have of the cells k, k + 1 and so on.
 use Rattle.std.proofs.Common.{◌≡◌, ℕ, suc, add-zero, ◌+◌, ◌-◌, ◌*◌, ◌<◌, ◌≤◌, List, [], ◌∷◌, ◌++◌, length, refl, ap, sym, ◌∙◌, arith}
 use Rattle.std.specs.List.{flat_map}
 use Rattle.part_geometry.specs.Shape.{Shape, IsShape}

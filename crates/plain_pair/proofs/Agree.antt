@@ -1,4 +1,6 @@
--- The sender's round as it is kept and as the record has it.
+-- The sender's round as it is kept and as the record has it. Where that round is released already, a pair that stands
+-- for a record need not agree on its marks; but as many pieces are out by both, and by what is kept all of them are, so
+-- each partition is marked in both.
 use Rattle.std.proofs.Common.{◌≡◌, ℕ, zero, suc, ◌+◌, ◌-◌, ◌*◌, ◌<◌, ◌≤◌, Bool, true, cond, ◌&&◌, List, [], ◌∷◌, length, get_or, count_by, sum_by, refl, ap, sym, ◌∙◌, arith, inl, inr}
 use Rattle.std.specs.List.{range_with_len, list_all}
 use Rattle.std.proofs.lemmas.Bool.{cases_lt, cases_Bool, eq-eqb, le-ltb}
@@ -42,7 +44,7 @@ count-full p (suc n) a full x low high =
       | inr missing ↦ let none : cond {A = ℕ} (p a) 1 0 ≡ 0 = ap (λ b. cond b 1 0) missing in absurd (omega arith)
     ]
 
--- where a sum is as great as it can be, each part is
+-- a sum of parts of at most m each is at most m for each item
 sum-most : (f : Round → ℕ) (m : ℕ) (xs : List Round) → ((x : Round) → f x ≤ m) → sum_by f xs ≤ length xs * m
 sum-most f m [] most = omega arith
 sum-most f m (x ∷ xs) most =
@@ -51,6 +53,7 @@ sum-most f m (x ∷ xs) most =
     let here = most x in
     let size : suc (length xs) * m ≡ length xs * m + m = suc-mul (length xs) m in omega arith
 
+-- where the sum is as great as that, each part is m
 pub sum-full : (f : Round → ℕ) (m : ℕ) (xs : List Round) → ((x : Round) → f x ≤ m) → sum_by f xs ≡ length xs * m → (k : ℕ) → k < length xs → f (get_or xs k no_marks) ≡ m
 sum-full f m [] most full k inside = absurd (omega arith)
 sum-full f m (x ∷ xs) most full zero inside =
@@ -65,6 +68,7 @@ sum-full f m (x ∷ xs) most full (suc k) inside =
     let size : suc (length xs) * m ≡ length xs * m + m = suc-mul (length xs) m in
     sum-full f m xs most (omega arith) k (omega arith)
 
+-- no more pieces of a round are out than there are
 round_out-le : (g : Shape) (round : Round) → round_out g round ≤ pieces g
 unfolding round_out
 round_out-le g round = let h = count_by-le-length (is_out g round) (range_with_len 0 (pieces g)) in let e = length-range_with_len 0 (pieces g) in omega arith

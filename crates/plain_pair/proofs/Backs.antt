@@ -1,4 +1,5 @@
--- A return: what is kept stays sound, and stands for the record with the return.
+-- A return: what is kept stays sound, and stands for the record with the return. The buffer that is put back is one
+-- that was away, so no byte that the pair answers for changes.
 use Rattle.std.proofs.Common.{◌≡◌, ◌≢◌, ℕ, ◌+◌, ◌*◌, ◌/◌, ◌%◌, ◌<◌, ◌≤◌, ◌==◌, Bool, true, false, cond, ◌&&◌, ◌||◌, not, List, [], length, get_or, set, refl, ap, sym, ◌∙◌, arith, inl, inr}
 use Rattle.std.specs.FinSet as parts
 use Rattle.std.specs.Cmp.{nat_cmp_total}
@@ -22,6 +23,7 @@ use Rattle.plain_pair.proofs.Takes.{one_place}
 abbrev pub back_kept : Kept → ℕ → List ℕ → Kept
 back_kept k q bytes = record k { back = set k.back q true; buffers = set k.buffers (buffer_place k.shape k.received q) bytes }
 
+-- a return changes no round
 same_rounds : (k : Kept) (q : ℕ) (bytes : List ℕ) → HasRounds k → HasRounds (back_kept k q bytes)
 same_rounds k q bytes r = record {
   sent = r.sent;
@@ -34,6 +36,7 @@ same_rounds k q bytes r = record {
   busy = r.busy;
 }
 
+-- after a return each buffer that is there is full
 full_back : (k : Kept) (missing : List ℕ) (t : Taken) → IsSound k missing → IsOut k t → (place x : ℕ) → place < k.shape.depth → x < k.shape.recv_parts
     → is_away (back_kept k t.partition t.bytes) place x ≡ false
     → length (get_or (set k.buffers (buffer_place k.shape k.received t.partition) t.bytes) (place * k.shape.recv_parts + x) []) ≡ k.shape.recv_bytes
@@ -54,6 +57,7 @@ full_back k missing t s m place x low high here =
           ])
     ]
 
+-- what is kept after a return is sound
 pub sound_back : (k : Kept) (missing : List ℕ) (t : Taken) → IsSound k missing → IsOut k t → IsSound (back_kept k t.partition t.bytes) missing
 sound_back k missing t s m =
     let g = k.shape in
@@ -98,6 +102,7 @@ byte_stays k missing t round x s m later upto inside free =
     false≢true (sym free ∙ taken) in
     ap (λ buffer. get_or buffer (x % g.recv_bytes) 0) (get_or-set_other k.buffers (buffer_place g k.received q) (buffer_place g round (x / g.recv_bytes)) t.bytes [] apart)
 
+-- and stands for the record with the return
 pub stands_back : (k : Kept) (missing : List ℕ) (r : Record) (t : Taken) → IsSound k missing → IsOut k t → StandsFor k r → StandsFor (back_kept k t.partition t.bytes) (gave_back r t.partition)
 unfolding kept_out pieces_out
 stands_back k missing r t s m st =

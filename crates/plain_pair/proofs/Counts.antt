@@ -1,4 +1,4 @@
--- Tests over ranges: how many pass, and whether all do.
+-- Tests over ranges: how many pass, and whether all do. Each fact is by induction over the length of the range.
 use Rattle.std.proofs.Common.{◌≡◌, ℕ, zero, suc, ◌+◌, ◌<◌, ◌≤◌, Bool, true, false, cond, count_by, replicate, refl, ap, sym, ◌∙◌, arith, inl, inr}
 use Rattle.std.specs.List.{range_with_len, list_all}
 use Rattle.std.proofs.lemmas.Bool.{cases_lt, and_from, and_left, and_right, and_parts}
@@ -14,13 +14,14 @@ has-none n p =
       | inr past ↦ get_or_past (replicate n false) p false (let e = length-replicate n false in omega arith)
     ]
 
--- all of a range pass, or one doesn't
+-- where each number of a range passes, all do
 pub list_all-range : (p : ℕ → Bool) (a n : ℕ) → ((x : ℕ) → a ≤ x → x < a + n → p x ≡ true) → list_all p (range_with_len a n) ≡ true
 list_all-range p a zero each = refl
 list_all-range p a (suc n) each =
     and_from (p a) (list_all p (range_with_len (a + 1) n)) (each a (omega arith) (omega arith))
     (list_all-range p (a + 1) n (λ x low high. each x (omega arith) (omega arith)))
 
+-- where all do, each does
 pub list_all-each : (p : ℕ → Bool) (a n : ℕ) → list_all p (range_with_len a n) ≡ true → (x : ℕ) → a ≤ x → x < a + n → p x ≡ true
 list_all-each p a zero all x low high = absurd (omega arith)
 list_all-each p a (suc n) all x low high =
@@ -30,6 +31,7 @@ list_all-each p a (suc n) all x low high =
       | inr here ↦ rw (let e : x ≡ a = omega arith in e) h.0
     ]
 
+-- where one doesn't, not all do
 pub list_all-not : (p : ℕ → Bool) (a n x : ℕ) → a ≤ x → x < a + n → p x ≡ false → list_all p (range_with_len a n) ≡ false
 list_all-not p a zero x low high none = absurd (omega arith)
 list_all-not p a (suc n) x low high none =
@@ -38,20 +40,21 @@ list_all-not p a (suc n) x low high none =
       | inr here ↦ and_left (p a) (list_all p (range_with_len (a + 1) n)) (rw (let e : a ≡ x = omega arith in e) none)
     ]
 
--- how many of a range pass, where all or none do
+-- where each number of a range passes, as many are counted as it has
 pub count-all : (p : ℕ → Bool) (a n : ℕ) → ((x : ℕ) → a ≤ x → x < a + n → p x ≡ true) → count_by p (range_with_len a n) ≡ n
 count-all p a zero each = refl
 count-all p a (suc n) each =
     let rest = count-all p (a + 1) n (λ x low high. each x (omega arith) (omega arith)) in
     rw (sum_by-cons, each a (omega arith) (omega arith), rest) (omega arith)
 
+-- where none passes, none is counted
 pub count-none : (p : ℕ → Bool) (a n : ℕ) → ((x : ℕ) → a ≤ x → x < a + n → p x ≡ false) → count_by p (range_with_len a n) ≡ 0
 count-none p a zero each = refl
 count-none p a (suc n) each =
     let rest = count-none p (a + 1) n (λ x low high. each x (omega arith) (omega arith)) in
     rw (sum_by-cons, each a (omega arith) (omega arith), rest) refl
 
--- two tests that agree on a range
+-- two tests that agree on a range count the same
 pub count-same : (p q : ℕ → Bool) (a n : ℕ) → ((x : ℕ) → a ≤ x → x < a + n → p x ≡ q x) → count_by p (range_with_len a n) ≡ count_by q (range_with_len a n)
 count-same p q a zero each = refl
 count-same p q a (suc n) each =

@@ -1,4 +1,5 @@
--- The first cells of the numbers of a row, found in one pass.
+-- The first cells of the numbers of a row, found in one pass. Numbers count up by steps of at most 1, so a cell has a
+-- new number exactly where that is the number of firsts so far.
 use Rattle.std.proofs.Common.{◌≡◌, ◌≢◌, ℕ, ◌+◌, ◌-◌, ◌<◌, ◌≤◌, List, [], ◌∷◌, ◌++◌, length, get_or, map, refl, ap, sym, ◌∙◌, arith, inl, inr}
 use Rattle.std.proofs.lemmas.Bool.{cases_lt}
 use Rattle.std.proofs.lemmas.List.{length_push, get_or_push, get_or_append_left}
@@ -25,9 +26,11 @@ pub record SoFar (f : ℕ → ℕ) (i : ℕ) (firsts : List ℕ) : Type 0 where
   pub size : 0 < i → length firsts ≡ f (i - 1) + 1
   pub each : (j : ℕ) → j < length firsts → IsFirst f i j (get_or firsts j 0)
 
+-- before the first cell there are no firsts
 pub so_far_none : (f : ℕ → ℕ) (firsts : List ℕ) → length firsts ≡ 0 → SoFar f 0 firsts
 so_far_none f firsts empty = record { none = λ e. empty; size = λ h. absurd (omega arith); each = λ j h. absurd (omega arith) }
 
+-- what is the first cell of its number so far is so with one cell more
 later : (f : ℕ → ℕ) (i j x : ℕ) → IsFirst f i j x → IsFirst f (i + 1) j x
 later f i j x h = record { inside = (let e = h.inside in omega arith); here = h.here; before = h.before }
 
@@ -113,11 +116,13 @@ cells_of f n count firsts row s j below =
           )
     ]
 
+-- each of the three ways to number the cells is a row
 pub row_is : (row : Row) (g : Shape) → IsShape g → IsRow (number row g) (cells g) (count row g)
 row_is Send g v = send-row g v
 row_is Recv g v = recv-row g v
 row_is Piece g v = piece-row g v
 
+-- the firsts of all cells, with the number of cells pushed behind them, are the table
 pub firsts_whole : (row : Row) (g : Shape) (firsts all : List ℕ) → IsShape g → SoFar (number row g) (cells g) firsts → all ≡ firsts ++ cells g ∷ [] → AreFirsts row g all
 firsts_whole row g firsts all v s is =
     let r = row_is row g v in
@@ -128,25 +133,28 @@ firsts_whole row g firsts all v s is =
           record { some = h.0; inside = h.1; numbered = h.2; all = h.3 };
     }
 
--- the cells of a geometry, laid out: how many there are, and the number of each
+-- the cells of a geometry, laid out, are as many as it has
 pub cells_length : (g : Shape) (all : List Cell) → all ≡ map (cell_at g) (range_with_len 0 (cells g)) → length all ≡ cells g
 cells_length g all is = rw is (length-map-range_with_len (cell_at g) 0 (cells g))
 
+-- at each place stands the cell of that number
 pub cell_there : (g : Shape) (all : List Cell) (c : ℕ) (d : Cell) → all ≡ map (cell_at g) (range_with_len 0 (cells g)) → c < length all → get_or all c d ≡ cell_at g c
 cell_there g all c d is inside =
     let size = cells_length g all is in
     rw is (get_or-map-range_with_len (cell_at g) 0 (cells g) c c d (omega arith) (omega arith))
 
+-- the number that a cell says is the geometry's
 number_in-cell_at : (row : Row) (g : Shape) (c : ℕ) → number_in row (cell_at g c) ≡ number row g c
 number_in-cell_at Send g c = refl
 number_in-cell_at Recv g c = refl
 number_in-cell_at Piece g c = refl
 
+-- with its number in each row
 pub number_there : (row : Row) (g : Shape) (all : List Cell) (c : ℕ) (d : Cell) → all ≡ map (cell_at g) (range_with_len 0 (cells g)) → c < length all
     → number_in row (get_or all c d) ≡ number row g c
 number_there row g all c d is inside = rw (cell_there g all c d is inside) (number_in-cell_at row g c)
 
--- one turn of the pass
+-- one turn of the pass where the cell has a new number: the cell is pushed
 pub so_far_pushed : (row : Row) (g : Shape) (all : List Cell) (d : Cell) (c n : ℕ) (firsts firsts' : List ℕ) → IsShape g
     → all ≡ map (cell_at g) (range_with_len 0 (cells g)) → c < length all → SoFar (number row g) c firsts
     → n ≡ number_in row (get_or all c d) → n ≡ length firsts → firsts' ≡ firsts ++ c ∷ [] → SoFar (number row g) (c + 1) firsts'
@@ -154,6 +162,7 @@ so_far_pushed row g all d c n firsts firsts' v is inside s number_is new after =
     let size = cells_length g all is in
     rw after (so_far_new (number row g) (cells g) (count row g) c firsts (row_is row g v) (omega arith) s (sym (number_there row g all c d is inside) ∙ sym number_is ∙ new))
 
+-- one turn where it hasn't: the firsts stay
 pub so_far_kept : (row : Row) (g : Shape) (all : List Cell) (d : Cell) (c n : ℕ) (firsts : List ℕ) → IsShape g
     → all ≡ map (cell_at g) (range_with_len 0 (cells g)) → c < length all → SoFar (number row g) c firsts
     → n ≡ number_in row (get_or all c d) → n ≢ length firsts → SoFar (number row g) (c + 1) firsts

@@ -1,4 +1,5 @@
--- A mark is one more of those of its round, and sends out what it completes.
+-- A mark is one more of those of its round, and sends out what it completes: one flag more is set, and those pieces are
+-- whole that lacked this partition alone.
 use Rattle.std.proofs.Common.{◌≡◌, ℕ, ◌+◌, ◌<◌, Bool, true, false, cond, List, length, get_or, set, count_by, arith}
 use Rattle.std.specs.List.{range_with_len}
 use Rattle.std.proofs.lemmas.List.{length-set}
@@ -21,6 +22,7 @@ one_more flags p inside free =
     let old = rw free at sum in
     omega arith
 
+-- a mark raises the number of marks in the round by 1 and that of pieces out by those it sends, within the limits
 pub grows : (k : Kept) (missing : List ℕ) (p : ℕ) (buffers : List (List ℕ)) (first end sent : ℕ) → IsSound k missing → CanMark k p → ArePiecesOf k.shape p first end
     → sent ≡ sent_by missing first end → Grows k (marked_kept k p buffers) sent
 unfolding marks_in pieces_in

@@ -1,4 +1,5 @@
--- One turn of counting down.
+-- Counting down, turn by turn: the places passed have one less, the others what they had, and those passed that became
+-- 0 are counted.
 use Rattle.std.proofs.Common.{◌≡◌, ℕ, zero, suc, zero-add, add-zero, ◌+◌, ◌-◌, ◌<◌, ◌≤◌, ◌==◌, Bool, cond, List, [], length, get_or, set, count_by, refl, ap, sym, ◌∙◌, arith, inl, inr}
 use Rattle.std.specs.List.{range_with_len}
 use Rattle.std.proofs.lemmas.Bool.{cases_eq}
@@ -7,6 +8,7 @@ use Rattle.std.proofs.lemmas.List.Sums.{sum_by-cons}
 use Rattle.std.proofs.Math.Nat.{add_assoc, suc-add}
 use Rattle.plain_pair.specs.Lessens.{Lessens}
 
+-- before the first turn nothing is less
 pub lessens_none : (xs : List ℕ) (first : ℕ) → Lessens xs xs first first
 lessens_none xs first = record {
   size = refl;
@@ -14,6 +16,7 @@ lessens_none xs first = record {
   outside = λ i out. refl;
 }
 
+-- a turn makes the number at the next place one less
 pub lessens_more : (old mid new : List ℕ) (first i : ℕ) → Lessens old mid first i → first ≤ i → i < length old → new ≡ set mid i (get_or mid i 0 - 1) → Lessens old new first (i + 1)
 lessens_more old mid new first i h low inside is =
     let size = h.size in
@@ -45,6 +48,7 @@ count-split p (suc m) a n =
     ∙ ap (λ k. k + count_by p (range_with_len (a + 1 + m) n)) (sym (sum_by-cons (λ x. cond (p x) 1 0) a (range_with_len (a + 1) m)))
     ∙ ap (λ k. count_by p (range_with_len a (suc m)) + count_by p (range_with_len k n)) e)
 
+-- a count over one number is 1 where it passes, and else 0
 pub count-one : (p : ℕ → Bool) (a : ℕ) → count_by p (range_with_len a 1) ≡ cond (p a) 1 0
 count-one p a = sum_by-cons (λ x. cond (p x) 1 0) a [] ∙ add-zero _
 

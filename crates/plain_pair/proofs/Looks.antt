@@ -1,4 +1,5 @@
--- What has arrived, by what is kept and by the record.
+-- What has arrived, by what is kept and by the record. A piece is out of the receiver's round where the sender is past
+-- it, or in it with the piece whole: by both, so the least piece that is missing is the same.
 use Rattle.std.proofs.Common.{◌≡◌, ℕ, ◌+◌, ◌-◌, ◌*◌, ◌/◌, ◌<◌, ◌≤◌, ◌==◌, nat_lt, Bool, true, false, ◌&&◌, not, Some, None, List, get_or, find, refl, ap, sym, subst, ◌∙◌, arith, inl, inr}
 use Rattle.std.specs.List.{range_with_len}
 use Rattle.std.proofs.Math.Nat.{div-eq_of_lt-le}
@@ -52,6 +53,7 @@ piece_out_now k missing r s st busy i inside =
       ]
     ]
 
+-- so the least piece over a partition that is missing is the same by both
 pub missing_now : (k : Kept) (missing : List ℕ) (r : Record) → IsSound k missing → StandsFor k r → k.receiving ≡ true → (q : ℕ)
     → kept_missing k q ≡ missing_piece k.shape (round_of r r.received) q
 unfolding kept_missing missing_piece
@@ -59,7 +61,7 @@ missing_now k missing r s st busy q =
     find-same (λ i. is_over k.shape q i && not (kept_piece_out k i)) (λ i. is_over k.shape q i && not (is_out k.shape (round_of r r.received) i)) (pieces k.shape) 0
     (λ i low high. ap (λ b. is_over k.shape q i && not b) (piece_out_now k missing r s st busy i (omega arith)))
 
--- the three cases of what is missing
+-- where the sender is past the receiver's round, none is missing
 pub missing_before : (k : Kept) (q : ℕ) → k.received < k.sent → kept_missing k q ≡ None
 unfolding kept_missing
 missing_before k q before =
@@ -70,6 +72,7 @@ missing_before k q before =
     and_right_false true = refl
     and_right_false false = refl
 
+-- where the sender hasn't come to it, the first piece over the partition is missing
 pub missing_after : (k : Kept) (q first end : ℕ) → k.sent < k.received → ArePiecesOver k.shape q first end → kept_missing k q ≡ Some first
 unfolding kept_missing
 missing_after k q first end after over =
@@ -84,6 +87,7 @@ missing_after k q first end after over =
     and_true_right true = refl
     and_true_right false = refl
 
+-- where both are in one round, it is the first over the partition of which a count of what is missing is left
 pub missing_same : (k : Kept) (missing : List ℕ) (q first end : ℕ) → IsSound k missing → k.received ≡ k.sent → ArePiecesOver k.shape q first end
     → kept_missing k q ≡ find (λ i. not (get_or missing i 0 == 0)) (range_with_len first (end - first))
 unfolding kept_missing

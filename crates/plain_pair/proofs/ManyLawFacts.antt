@@ -1,4 +1,5 @@
--- What the marks of a range or a list come to.
+-- What the marks of a range or a list come to: by induction over the entries, they go through all of them, or stop at
+-- one.
 use Rattle.std.proofs.Common.{◌≡◌, ◌⊎◌, ℕ, suc, ◌+◌, Some, None, Ok, Err, Result, List, [], ◌∷◌, length, take, fold, refl, ap, sym, ◌∙◌, arith, inl, inr}
 use Rattle.std.specs.List.{slice_get}
 use Rattle.std.proofs.lemmas.List.Folds.{fold_stays}
@@ -32,6 +33,7 @@ record Stops (g : Shape) (k : ℕ) (done end : Progress) (es : List (ℕ × List
 abbrev ends : Shape → ℕ → Progress → List (ℕ × List ℕ) → Progress
 ends g k done es = fold (mark_one_more g k) done es
 
+-- from where nothing is refused, marks go through all entries, or stop at one
 run : (g : Shape) (k : ℕ) (es : List (ℕ × List ℕ)) (done : Progress) → done.refused ≡ None
     → GoesThrough done (ends g k done es) es ⊎ Stops g k done (ends g k done es) es
 run g k [] done going = inl (record { going = going; count = (let z : done.count ≡ done.count + 0 = omega arith in z); after = refl })
@@ -75,12 +77,15 @@ run g k (e ∷ es) done going = by_answer (pready_answer g done.after k e.0 e.1)
           refused = is;
         })
 
+-- where nothing is refused, the marks that were made are told
 told_going : (k : ℕ) (done : Progress) → done.refused ≡ None → told k done ≡ Ok record { round = k; count = done.count; sent = done.sent }
 told_going k done going = rw going refl
 
+-- else the cause, and how many were made before
 told_stopped : (k : ℕ) (done : Progress) (cause : PlainRefusal) → done.refused ≡ Some cause → told k done ≡ Err record { at = done.count; cause = cause }
 told_stopped k done cause stopped = rw stopped refl
 
+-- a call that is accepted marked all its entries, each with its bytes
 pub accepted_mark_all : AcceptedMarkAll
 accepted_mark_all g r k es marks is =
     let end = progress g r k es in
@@ -92,6 +97,7 @@ accepted_mark_all g r k es marks is =
       | inr h ↦ let e : Ok marks ≡ Err record { at = end.count; cause = h.cause } = sym is ∙ told_stopped k end h.cause h.stopped in cc
     ]
 
+-- a call that is refused keeps the marks before the refused one, which is refused as a single mark is
 pub refused_keep_marks : RefusedKeepMarks
 refused_keep_marks g r k es stop is =
     let end = progress g r k es in

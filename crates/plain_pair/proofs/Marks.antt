@@ -1,4 +1,6 @@
--- A mark: what is kept stays sound, stands for the record with the mark, and the pieces that went out are counted.
+-- A mark: what is kept stays sound, stands for the record with the mark, and the pieces that went out are counted. The
+-- places of the partition get its bytes; each piece that it touches lacks one partition less, and goes out where that
+-- was the last one.
 use Rattle.std.proofs.Common.{◌≡◌, ◌≢◌, ◌⊎◌, ℕ, ◌+◌, ◌-◌, ◌*◌, ◌/◌, ◌%◌, ◌<◌, ◌≤◌, ◌==◌, nat_lt, Bool, true, false, cond, ◌&&◌, not, Some, Option, is_some, unwrap_or, List, [], length, get_or, set, count_by, refl, ap, sym, ◌∙◌, arith, inl, inr}
 use Rattle.std.specs.FinMap as rounds
 use Rattle.std.specs.Ordering.{nat_cmp, eq_by_cmp}
@@ -68,6 +70,7 @@ mark_stays k p round x buffers inside is =
     cond_true true c e = refl
     cond_true false c e = e
 
+-- a mark changes no round
 same_rounds : (k : Kept) (p : ℕ) (buffers : List (List ℕ)) → HasRounds k → HasRounds (marked_kept k p buffers)
 same_rounds k p buffers r = record {
   sent = r.sent;
@@ -84,6 +87,7 @@ same_rounds k p buffers r = record {
 pub kept_mark-here : (k : Kept) (x : ℕ) → kept_mark k k.sent x ≡ has k.marked x
 kept_mark-here k x = rw (le-ltb k.sent k.sent (omega arith), eq-eqb k.sent k.sent refl) refl
 
+-- what is kept after a mark is sound
 pub sound_mark : (k : Kept) (missing missing' : List ℕ) (p : ℕ) (bytes : List ℕ) (buffers : List (List ℕ)) (first end : ℕ) → IsSound k missing → CanMark k p
     → IsMarked k p bytes missing missing' buffers first end → IsSound (marked_kept k p buffers) missing'
 sound_mark k missing missing' p bytes buffers first end s m w =
@@ -158,7 +162,7 @@ ties x p =
       ]
     ]
 
--- the marks of a round with one more
+-- a round with a mark more has its bytes for its partition, and for each other what it had
 pub get_marked : (round : Round) (p x : ℕ) (bytes : List ℕ) → rounds.get (rounds.insert round p bytes) x ≡ cond (x == p) (Some bytes) (rounds.get round x)
 get_marked round p x bytes = rounds.get-insert nat_cmp_total round p bytes x ∙ ap (λ b. cond b (Some bytes) (rounds.get round x)) (ties x p)
 
@@ -166,10 +170,11 @@ cond_some : (b : Bool) (bytes : List ℕ) (o : Option (List ℕ)) → is_some (c
 cond_some true bytes o = refl
 cond_some false bytes o = refl
 
+-- its partition is marked in it, and the others are where they were
 pub is_marked-insert : (round : Round) (p x : ℕ) (bytes : List ℕ) → is_marked (rounds.insert round p bytes) x ≡ cond (x == p) true (is_marked round x)
 is_marked-insert round p x bytes = ap is_some (get_marked round p x bytes) ∙ cond_some (x == p) bytes (rounds.get round x)
 
--- the record's rounds after a mark
+-- in the record after a mark the sender's round has the mark
 pub round_of-marked_last : (r : Record) (p : ℕ) (bytes : List ℕ) (k : ℕ) → 0 < k → k ≡ send_round r → round_of (marked r p bytes) k ≡ rounds.insert (round_of r k) p bytes
 round_of-marked_last r p bytes k pos is =
     let e : k - 1 ≡ send_round r - 1 = omega arith in
@@ -177,14 +182,17 @@ round_of-marked_last r p bytes k pos is =
     ∙ get_or-set_same r.rounds (send_round r - 1) (rounds.insert (round_of r (send_round r)) p bytes) no_marks (omega arith)
     ∙ ap (λ n. rounds.insert (round_of r n) p bytes) (sym is)
 
+-- and the rounds before are as they were
 pub round_of-marked_before : (r : Record) (p : ℕ) (bytes : List ℕ) (k : ℕ) → 0 < k → k < send_round r → round_of (marked r p bytes) k ≡ round_of r k
 round_of-marked_before r p bytes k pos before =
     get_or-set_other r.rounds (send_round r - 1) (k - 1) (rounds.insert (round_of r (send_round r)) p bytes) no_marks (λ e. omega arith)
 
+-- a mark starts no round
 pub send_round-marked : (r : Record) (p : ℕ) (bytes : List ℕ) → send_round (marked r p bytes) ≡ send_round r
 send_round-marked r p bytes = length-set r.rounds (send_round r - 1) _
 
--- the pieces that were whole before, and those that the mark completes
+-- two counts over a range in three parts: they agree on the first and the last, and in the middle only one counts, what
+-- a third test passes
 whole_three : (p q z : ℕ → Bool) (first m rest : ℕ) → ((i : ℕ) → i < first → p i ≡ q i) → ((i : ℕ) → first ≤ i → i < first + m → (p i ≡ z i) × (q i ≡ false))
     → ((i : ℕ) → first + m ≤ i → i < first + m + rest → p i ≡ q i)
     → count_by p (range_with_len 0 (first + (m + rest))) ≡ count_by q (range_with_len 0 (first + (m + rest))) + count_by z (range_with_len first m)
@@ -199,6 +207,7 @@ whole_three p q z first m rest before here behind =
     let d = count-same p q (first + m) rest (λ i low high. behind i low high) in
     omega arith
 
+-- after a mark those pieces more are whole of which one partition was missing, among those that its partition touches
 pub whole_after : (k : Kept) (missing : List ℕ) (p first end : ℕ) → IsSound k missing → CanMark k p → ArePiecesOf k.shape p first end
     → count_by (is_whole k.shape (set k.marked p true)) (range_with_len 0 (pieces k.shape))
     ≡ count_by (is_whole k.shape k.marked) (range_with_len 0 (pieces k.shape)) + count_by (λ i. get_or missing i 0 == 1) (range_with_len first (end - first))
@@ -242,11 +251,13 @@ some_missing k missing p first end s m t i low high =
 abbrev pub sent_by : List ℕ → ℕ → ℕ → ℕ
 sent_by missing first end = count_by (λ i. get_or missing i 0 == 1) (range_with_len first (end - first))
 
+-- the pieces out are those of the rounds before and the whole ones of the round, for any marks of it
 out_kept : (k : Kept) (marks : List Bool) (buffers : List (List ℕ)) → 0 < k.sent
     → kept_out (record k { marked = marks; buffers = buffers }) ≡ (k.sent - 1) * pieces k.shape + count_by (is_whole k.shape marks) (range_with_len 0 (pieces k.shape))
 unfolding kept_out
 out_kept k marks buffers some = cond-false (k.sent == 0) _ _ (ne_eqb k.sent 0 (λ e. omega arith))
 
+-- by what is kept, a mark sends out as many pieces as that
 pub kept_out-marked : (k : Kept) (missing : List ℕ) (p : ℕ) (buffers : List (List ℕ)) (first end : ℕ) → IsSound k missing → CanMark k p → ArePiecesOf k.shape p first end
     → kept_out (marked_kept k p buffers) ≡ kept_out k + sent_by missing first end
 kept_out-marked k missing p buffers first end s m t =
@@ -267,6 +278,7 @@ out_marked_now k missing r p bytes s m st i inside =
     ∙ ap (cond (x == p) true) (sym (marks_now k missing r s st (s.rounds.begun m.active) x (needed_below k.shape s.shape i x inside high low)))
     ∙ sym (has-set k.marked p x there))
 
+-- and by the record too
 pub pieces_out-marked : (k : Kept) (missing : List ℕ) (r : Record) (p : ℕ) (bytes : List ℕ) (first end : ℕ) → IsSound k missing → CanMark k p → StandsFor k r
     → ArePiecesOf k.shape p first end → pieces_out k.shape (marked r p bytes) ≡ pieces_out k.shape r + sent_by missing first end
 unfolding pieces_out round_out
@@ -318,6 +330,7 @@ kept_byte-marked k missing missing' p bytes buffers first end s m w x inside =
           w.stores.elsewhere x inside out ∙ sym (cond-false (x / g.send_bytes == p) _ _ (ne_eqb _ p other))
     ]
 
+-- a place of an earlier round in flight keeps its byte
 kept_byte-other : (k : Kept) (missing missing' : List ℕ) (p : ℕ) (bytes : List ℕ) (buffers : List (List ℕ)) (first end : ℕ) → IsSound k missing → CanMark k p
     → IsMarked k p bytes missing missing' buffers first end → (round x : ℕ) → k.released < round → round < k.sent → x < send_total k.shape
     → kept_byte (marked_kept k p buffers) round x ≡ kept_byte k round x
@@ -330,6 +343,7 @@ kept_byte-other k missing missing' p bytes buffers first end s m w round x later
     ap (λ buffer. get_or buffer (x % g.recv_bytes) 0)
     (w.stores.apart (round % g.depth * g.recv_parts + x / g.recv_bytes) (places_apart (k.sent % g.depth) (round % g.depth) (x / g.recv_bytes) g.recv_parts apart part))
 
+-- what is kept after a mark stands for the record with the mark
 pub stands_mark : (k : Kept) (missing missing' : List ℕ) (r : Record) (p : ℕ) (bytes : List ℕ) (buffers : List (List ℕ)) (first end : ℕ) → IsSound k missing → CanMark k p
     → IsMarked k p bytes missing missing' buffers first end → StandsFor k r → StandsFor (marked_kept k p buffers) (marked r p bytes)
 stands_mark k missing missing' r p bytes buffers first end s m w st =

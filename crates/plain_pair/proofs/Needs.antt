@@ -1,4 +1,5 @@
--- How many send partitions a piece touches, from the first cells of the pieces.
+-- How many send partitions a piece touches, from the first cells of the pieces: those from the partition of its first
+-- cell to that of its last.
 use Rattle.std.proofs.Common.{◌≡◌, ℕ, ◌+◌, ◌-◌, ◌<◌, ◌≤◌, List, [], ◌∷◌, ◌++◌, length, get_or, map, refl, ap, arith}
 use Rattle.std.specs.List.{range_with_len}
 use Rattle.std.proofs.lemmas.List.FromFn.{map-range_with_len_more}
@@ -40,6 +41,7 @@ pub record TurnOf (g : Shape) (i first next : ℕ) (a b : Cell) : Type 0 where
   pub ordered : a.send ≤ b.send + 1
   pub small : b.send < MAX_PARTS
 
+-- what one turn reads for piece i from the tables: its first and its last cell, and their send partitions
 pub turn : (g : Shape) (v : IsShape g) (all : List Cell) (firsts : List ℕ) (i first next : ℕ) (d e : Cell)
     → all ≡ map (cell_at g) (range_with_len 0 (cells g)) → AreFirsts Piece g firsts → i + 1 < length firsts
     → first ≡ get_or firsts i 0 → next ≡ get_or firsts (i + 1) 0
@@ -71,6 +73,7 @@ turn g v all firsts i first next d e is f inside first_is next_is =
       small = omega arith;
     }
 
+-- so it pushes how many send partitions piece i touches
 pub needs_more : (g : Shape) (i first next n : ℕ) (a b : Cell) (needs needs' : List ℕ) → TurnOf g i first next a b
     → needs ≡ map (need_count g) (range_with_len 0 i) → n ≡ b.send + 1 - a.send → needs' ≡ needs ++ n ∷ []
     → needs' ≡ map (need_count g) (range_with_len 0 (i + 1))

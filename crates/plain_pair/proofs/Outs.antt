@@ -1,4 +1,5 @@
--- How many pieces are out, by what is missing of each.
+-- How many pieces are out, by what is missing of each: all of the rounds before, and those of which nothing is missing
+-- now.
 use Rattle.std.proofs.Common.{◌≡◌, ℕ, zero, suc, add-zero, ◌+◌, ◌-◌, ◌*◌, ◌<◌, Bool, cond, not, ◌==◌, if◌then◌else◌, List, [], ◌∷◌, length, get_or, count_by, refl, ap, sym, ◌∙◌, arith, inl, inr}
 use Rattle.std.specs.List.{range_with_len, list_all}
 use Rattle.std.proofs.lemmas.Bool.{cases_Bool, ne_eqb}
@@ -33,10 +34,12 @@ count-places p q (x ∷ xs) a each =
     sum_by-cons (λ y. cond (p y) 1 0) x xs ∙ ap (λ b. cond b 1 0 + count_by p xs) here ∙ ap (λ m. cond (q a) 1 0 + m) rest
     ∙ sym (sum_by-cons (λ y. cond (q y) 1 0) a (range_with_len (a + 1) (length xs)))
 
+-- a piece is whole exactly where none of its partitions is unmarked
 pub whole-missing : (g : Shape) (marks : List Bool) (i : ℕ) → (unmarked g marks i == 0) ≡ is_whole g marks i
 unfolding unmarked is_whole needed
 whole-missing g marks i = none_missing (has marks) (first_part g i) (need_count g i)
 
+-- the pieces out, reckoned by what is missing of each, are those that are kept
 pub out-missing : (k : Kept) (missing : List ℕ) → IsSound k missing
     → (if k.sent == 0 then 0 else (k.sent - 1) * length missing + count_by (λ m. m == 0) missing) ≡ kept_out k
 unfolding kept_out

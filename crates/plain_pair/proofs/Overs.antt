@@ -1,4 +1,5 @@
--- The pieces over a receive partition, and the least of them that isn't out.
+-- The pieces over a receive partition, and the least of them that isn't out. They are in a row, so a search over all
+-- pieces finds what a search over that row does.
 use Rattle.std.proofs.Common.{◌≡◌, ◌⊎◌, ℕ, zero, suc, zero-add, add-zero, ◌+◌, ◌-◌, ◌<◌, ◌≤◌, Bool, true, false, cond, Some, None, find, refl, ap, sym, ◌∙◌, arith, inl, inr}
 use Rattle.std.specs.List.{range_with_len}
 use Rattle.std.proofs.Math.Nat.{suc-add}
@@ -13,6 +14,7 @@ use Rattle.part_geometry.proofs.Rows.{row-le, row-below, row-hits, piece-row}
 use Rattle.plain_pair.specs.declared.tables.Row.TheVariants.{Recv}
 use Rattle.plain_pair.specs.Tables.{AreCellsOf, ArePiecesOver}
 
+-- the pieces from that of a receive partition's first cell to that of its last are those over it
 pub pieces_over_part : (g : Shape) (v : IsShape g) (q first next : ℕ) → AreCellsOf Recv g q first next → ArePiecesOver g q (piece_of g first) (piece_of g (next - 1) + 1)
 pieces_over_part g v q first next is =
     let row = piece-row g v in
@@ -44,12 +46,13 @@ pieces_over_part g v q first next is =
           elim out [ inl b ↦ absurd (omega arith) | inr a ↦ absurd (omega arith) ]);
     }
 
--- what is found in a range
+-- where nothing passes, nothing is found
 pub find-none : (p : ℕ → Bool) (n a : ℕ) → ((x : ℕ) → a ≤ x → x < a + n → p x ≡ false) → find p (range_with_len a n) ≡ None
 find-none p zero a each = refl
 find-none p (suc n) a each =
     rw (each a (omega arith) (omega arith)) (find-none p n (a + 1) (λ x low high. each x (omega arith) (omega arith)))
 
+-- the first number that passes is found
 pub find-some : (p : ℕ → Bool) (n a x : ℕ) → a ≤ x → x < a + n → p x ≡ true → ((y : ℕ) → a ≤ y → y < x → p y ≡ false) → find p (range_with_len a n) ≡ Some x
 find-some p zero a x low high here before = absurd (omega arith)
 find-some p (suc n) a x low high here before =
@@ -58,6 +61,7 @@ find-some p (suc n) a x low high here before =
       | inr now ↦ let e : a ≡ x = omega arith in rw (ap p e ∙ here, e) refl
     ]
 
+-- two tests that agree on a range find the same
 pub find-same : (p q : ℕ → Bool) (n a : ℕ) → ((x : ℕ) → a ≤ x → x < a + n → p x ≡ q x) → find p (range_with_len a n) ≡ find q (range_with_len a n)
 find-same p q zero a each = refl
 find-same p q (suc n) a each =
@@ -78,7 +82,7 @@ find-nothing p (suc n) a none x low high =
           ]
     ]
 
--- each place of the message is in a cell
+-- a place before the start of cell n is in a cell before it
 cell_before : (g : Shape) (n x : ℕ) → x < start g n → (c : ℕ) × (c < n) × (start g c ≤ x) × (x < start g (c + 1))
 cell_before g zero x below = let z = start-zero g in absurd (omega arith)
 cell_before g (suc n) x below =
@@ -87,10 +91,11 @@ cell_before g (suc n) x below =
       | inr here ↦ (n, omega arith, here, (let e : start g (n + 1) ≡ start g (suc n) = ap (start g) (let z : n + 1 ≡ suc n = omega arith in z) in omega arith))
     ]
 
+-- each place of the message is in a cell
 pub cell_of_place : (g : Shape) (v : IsShape g) (x : ℕ) → x < send_total g → (c : ℕ) × (c < cells g) × (start g c ≤ x) × (x < start g (c + 1))
 cell_of_place g v x inside = cell_before g (cells g) x (let l = start-last g v in omega arith)
 
--- a range in which the front, or the back, has nothing to find
+-- where nothing in the front of a range passes, only the back is searched
 pub find-skip : (p : ℕ → Bool) (m a n : ℕ) → ((x : ℕ) → a ≤ x → x < a + m → p x ≡ false) → find p (range_with_len a (m + n)) ≡ find p (range_with_len (a + m) n)
 find-skip p zero a n each = rw (zero-add, add-zero) refl
 find-skip p (suc m) a n each =
@@ -98,12 +103,15 @@ find-skip p (suc m) a n each =
     let e : a + suc m ≡ a + 1 + m = omega arith in
     rw (suc-add, each a (omega arith) (omega arith), e) rest
 
+-- where nothing in the back passes, only the front is
 pub find-cut : (p : ℕ → Bool) (m a n : ℕ) → ((x : ℕ) → a + m ≤ x → x < a + m + n → p x ≡ false) → find p (range_with_len a (m + n)) ≡ find p (range_with_len a m)
 find-cut p zero a n each = rw zero-add (find-none p n a (λ x low high. each x (omega arith) (omega arith)))
 find-cut p (suc m) a n each =
     let rest = find-cut p m (a + 1) n (λ x low high. each x (omega arith) (omega arith)) in
     rw suc-add (ap (λ o. cond (p a) (Some a) o) rest)
 
+-- where a test passes nothing outside a window, and agrees with another in it, it finds in all what that finds in the
+-- window
 pub find-window : (p p' : ℕ → Bool) (n first end : ℕ) → first ≤ end → end ≤ n → ((i : ℕ) → i < n → (i < first) ⊎ (end ≤ i) → p i ≡ false) → ((i : ℕ) → first ≤ i → i < end → p i ≡ p' i)
     → find p (range_with_len 0 n) ≡ find p' (range_with_len first (end - first))
 find-window p p' n first end ordered inside out same =

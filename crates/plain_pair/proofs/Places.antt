@@ -1,4 +1,5 @@
--- Rounds in flight have places of their own.
+-- Rounds in flight have places of their own: they are a row of at most as many as the depth, so no two have one
+-- remainder by it.
 use Rattle.std.proofs.Common.{◌≡◌, ◌≢◌, ◌⊎◌, ℕ, ◌+◌, ◌*◌, ◌/◌, ◌%◌, ◌<◌, ◌≤◌, sym, arith, inl, inr}
 use Rattle.std.proofs.lemmas.Nat.{mul-le, mod_below}
 use Rattle.std.proofs.lemmas.Bool.{cases_lt, cases_order}
@@ -13,6 +14,7 @@ below_apart a b d pos less near same =
       | inr down ↦ let h : b / d * d ≤ a / d * d = mul-le (b / d) d (a / d) d down (omega arith) in absurd (omega arith)
     ]
 
+-- two numbers of the d behind `low` with one remainder by d are equal
 pub one_turn : (low a b d : ℕ) → 0 < d → low < a → a ≤ low + d → low < b → b ≤ low + d → a % d ≡ b % d → a ≡ b
 one_turn low a b d pos la ha lb hb same =
     elim (cases_order a b) [

@@ -59,6 +59,7 @@ chosen : (b : Bool) (xs bytes : List ℕ) (o : Option (List ℕ)) (P : List ℕ 
 chosen true xs bytes o P is new old = let same : xs ≡ bytes = cc in subst P same new
 chosen false xs bytes o P is new old = old is
 
+-- a mark of a partition's length leaves each mark with a partition's length
 whole_marked : (g : Shape) (r : Record) (p : ℕ) (bytes : List ℕ) → length bytes ≡ g.send_bytes → AreWhole g r.rounds → AreWhole g (marked r p bytes).rounds
 whole_marked g r p bytes size whole n q found is =
     elim (get_or-set r.rounds (send_round r - 1) n (rounds.insert (round_of r (send_round r)) p bytes)) [
@@ -80,15 +81,18 @@ accepted_size g r k p bytes m is =
       ]
     ]
 
+-- so does a move that is made only where its answer accepts it
 whole_if : {A E : Type 0} (g : Shape) (answer : Result A E) (next r : Record) → AreWhole g r.rounds → ((a : A) → answer ≡ Ok a → AreWhole g next.rounds) → AreWhole g (on_ok answer next r).rounds
 whole_if g (Ok a) next r whole then_whole = then_whole a refl
 whole_if g (Err e) next r whole then_whole = whole
 
+-- so does one mark of a call of several, accepted or refused
 whole_counted : (g : Shape) (done : Progress) (next : Record) (answer : Result Marked PlainRefusal) → AreWhole g done.after.rounds
     → ((m : Marked) → answer ≡ Ok m → AreWhole g next.rounds) → AreWhole g (counted done next answer).after.rounds
 whole_counted g done next (Ok m) whole then_whole = then_whole m refl
 whole_counted g done next (Err cause) whole then_whole = whole
 
+-- so does one entry more, which does nothing behind a refusal
 whole_more : (g : Shape) (k : ℕ) (done : Progress) (e : ℕ × List ℕ) → AreWhole g done.after.rounds → AreWhole g (mark_one_more g k done e).after.rounds
 whole_more g k done e whole =
     elim (cases_Bool (is_some done.refused)) [
@@ -98,26 +102,31 @@ whole_more g k done e whole =
           (λ m is. whole_marked g done.after e.0 e.1 (accepted_size g done.after k e.0 e.1 m is) whole))
     ]
 
+-- so do all entries of a call
 whole_progress : (g : Shape) (k : ℕ) (es : List (ℕ × List ℕ)) (done : Progress) → AreWhole g done.after.rounds → AreWhole g (fold (mark_one_more g k) done es).after.rounds
 whole_progress g k [] done whole = whole
 whole_progress g k (e ∷ es) done whole = whole_progress g k es (mark_one_more g k done e) (whole_more g k done e whole)
 
+-- also where the call may be refused as a whole
 whole_unless : (g : Shape) (o : Option PlainRefusal) (r : Record) (k : ℕ) (es : List (ℕ × List ℕ)) → AreWhole g r.rounds → AreWhole g (progress_unless o g r k es).after.rounds
 whole_unless g (Some cause) r k es whole = whole
 whole_unless g None r k es whole = whole_progress g k es (no_progress r) whole
 
+-- so does a test of the send
 whole_sent : (g : Shape) (answer : PlainSendTest) (r : Record) → AreWhole g r.rounds → AreWhole g (sent_done answer r).rounds
 whole_sent g send.Idle r whole = whole
 whole_sent g (send.Unmarked p) r whole = whole
 whole_sent g (send.Unreleased k) r whole = whole
 whole_sent g send.Done r whole = whole
 
+-- and a test of the receive
 whole_received : (g : Shape) (answer : RecvTest) (r : Record) → AreWhole g r.rounds → AreWhole g (received_done answer r).rounds
 whole_received g recv.Idle r whole = whole
 whole_received g (recv.Untaken q) r whole = whole
 whole_received g (recv.Out q) r whole = whole
 whole_received g recv.Done r whole = whole
 
+-- each call leaves each mark with a partition's length
 whole_call : (g : Shape) (r : Record) (call : Call) → AreWhole g r.rounds → AreWhole g (after_call g r call).rounds
 whole_call g r StartSend whole =
     whole_if g (start_send_answer r) (started_send r) r whole (λ k is n p bytes found. whole n p bytes (ap (λ z. rounds.get z p) (sym (get_or-one_more r.rounds n)) ∙ found))
@@ -132,10 +141,12 @@ whole_call g r (GiveBack q) whole = whole
 whole_call g r TestSend whole = whole_sent g (test_send_answer g r) r whole
 whole_call g r TestRecv whole = whole_received g (test_recv_answer g r) r whole
 
+-- and so do any calls, one after another
 whole_calls : (g : Shape) (calls : List Call) (r : Record) → AreWhole g r.rounds → AreWhole g (fold (after_call g) r calls).rounds
 whole_calls g [] r whole = whole
 whole_calls g (call ∷ calls) r whole = whole_calls g calls (after_call g r call) (whole_call g r call whole)
 
+-- the first record has no marks
 first_whole : (g : Shape) → AreWhole g first_record.rounds
 first_whole g n p bytes is = let e : ◌≡◌ {A = Option (List ℕ)} None (Some bytes) = sym (rounds.get-empty nat_cmp p) ∙ is in cc
 
@@ -171,11 +182,13 @@ record IsTaken (g : Shape) (r : Record) (q : ℕ) (taken : Taken) : Type 0 where
   none : missing_piece g (round_of r r.received) q ≡ None
   is : taken ≡ taken_of g r q
 
+-- where a take gives something by its last test, no piece is missing, and it is what the record gives
 taken_unless : (g : Shape) (r : Record) (q : ℕ) (taken : Taken) (o : Option ℕ)
     → option_map_or {U = Result Taken PlainTake} (λ i. Err (take.NotYet i)) o (Ok (taken_of g r q)) ≡ Ok taken → (o ≡ None) × (taken ≡ taken_of g r q)
 taken_unless g r q taken (Some i) is = cc
 taken_unless g r q taken None is = (refl, (let e : Ok (taken_of g r q) ≡ Ok taken = is in cc))
 
+-- an accepted take is of a receive partition over which no piece is missing
 is_taken : (g : Shape) (r : Record) (q : ℕ) (taken : Taken) → take_answer g r q ≡ Ok taken → IsTaken g r q taken
 is_taken g r q taken is =
     elim (cases_Bool r.receiving) [
@@ -195,6 +208,7 @@ some_of : (o : Option (List ℕ)) → is_some o ≡ true → (bytes : List ℕ) 
 some_of (Some bytes) is = (bytes, refl)
 some_of None is = cc
 
+-- whatever calls were made, a take gives bytes that were each marked in its round, at their place of the message
 pub takes_are_marked : TakesAreMarked
 unfolding bytes_of byte_at
 takes_are_marked g calls q taken v is =

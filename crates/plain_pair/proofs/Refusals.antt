@@ -1,4 +1,5 @@
--- A mark is refused by what is kept exactly as by the record.
+-- A mark is refused by what is kept exactly as by the record: the four causes are tried in one order, and each test
+-- says the same by both.
 use Rattle.std.proofs.Common.{◌≡◌, ℕ, ◌-◌, ◌<◌, ◌==◌, nat_lt, true, ◌&&◌, Ok, Err, Result, List, length, refl, ap, sym, ◌∙◌, inl, inr}
 use Rattle.std.proofs.lemmas.Bool.{cases_Bool, eqb-true, ltb-true, and_parts}
 use Rattle.part_geometry.specs.declared.answers.Marked.{Marked}
@@ -18,6 +19,7 @@ last_test : (k : Kept) (missing : List ℕ) (r : Record) (round p : ℕ) → IsS
 last_test k missing r round p s st inside active here =
     marks_now k missing r s st (s.rounds.begun active) p inside ∙ ap (λ n. is_marked (round_of r n) p) (sym here)
 
+-- the first cause against a mark is the same by what is kept and by the record
 pub same_refusal : (k : Kept) (missing : List ℕ) (r : Record) (round p size : ℕ) → IsSound k missing → StandsFor k r → refusal k round p size ≡ record_refusal k.shape r round p size
 same_refusal k missing r round p size s st =
     let sending = st.sending in let sent = st.sent in
@@ -38,6 +40,7 @@ abbrev pub answer_by : Result (Unit {0}) PlainRefusal → Marked → Result Mark
 answer_by (Ok u) m = Ok m
 answer_by (Err e) m = Err e
 
+-- a mark answers the first cause against it, or where there is none how many pieces it sent out
 pub pready_by : (g : Shape) (r : Record) (k p : ℕ) (bytes : List ℕ)
     → pready_answer g r k p bytes ≡ answer_by (record_refusal g r k p (length bytes)) record { round = k; partition = p; sent = pieces_out g (marked r p bytes) - pieces_out g r }
 pready_by g r k p bytes =
@@ -55,6 +58,7 @@ pready_by g r k p bytes =
       ]
     ]
 
+-- a refused mark answers as each record says, and changes nothing
 pub follows_refused : (k : Kept) (round p : ℕ) (bytes : List ℕ) (e : PlainRefusal) → ((r : Record) → StandsFor k r → Err e ≡ record_refusal k.shape r round p (length bytes))
     → Follows {A = Result Marked PlainRefusal} k k (Err e) (λ r. pready_answer k.shape r round p bytes) (λ r. after_pready k.shape r round p bytes)
 follows_refused k round p bytes e refused r st =
@@ -63,6 +67,7 @@ follows_refused k round p bytes e refused r st =
     let next : after_pready k.shape r round p bytes ≡ r = rw answer refl in
     (sym answer, rw next st)
 
+-- a mark that is made answers as each record says, and leaves the record with the mark
 pub follows_marked : (k new : Kept) (round p sent : ℕ) (bytes : List ℕ) (u : Unit {0}) → ((r : Record) → StandsFor k r → Ok u ≡ record_refusal k.shape r round p (length bytes))
     → Marks k new p bytes sent
     → Follows {A = Result Marked PlainRefusal} k new (Ok record { round = round; partition = p; sent = sent }) (λ r. pready_answer k.shape r round p bytes) (λ r. after_pready k.shape r round p bytes)

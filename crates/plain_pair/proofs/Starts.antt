@@ -1,4 +1,5 @@
--- Starting a side: what is kept stays sound, and stands for the record with the start.
+-- Starting a side: what is kept stays sound, and stands for the record with the start. The round that is left behind is
+-- whole, so its pieces are all out, and the new one has none out and nothing taken.
 use Rattle.std.proofs.Common.{◌≡◌, ◌≢◌, ℕ, Ok, Err, add-zero, ◌+◌, ◌-◌, ◌*◌, ◌/◌, ◌<◌, ◌≤◌, Bool, true, false, not, ◌==◌, List, [], length, map, replicate, refl, ap, sym, ◌∙◌, arith, inl, inr}
 use Rattle.std.specs.FinSet as parts
 use Rattle.std.specs.Ordering.{nat_cmp}
@@ -24,6 +25,7 @@ use Rattle.plain_pair.proofs.Rounds.{is_marked-none, round_of-old, round_of-new,
 abbrev pub sending_kept : Kept → Kept
 sending_kept k = record k { sent = k.sent + 1; sending = true; marked = replicate (length k.marked) false }
 
+-- where nothing is marked, a piece lacks all partitions that it touches
 unmarked-none : (g : Shape) (n i : ℕ) → unmarked g (replicate n false) i ≡ need_count g i
 unfolding unmarked needed
 unmarked-none g n i = count-all (λ p. not (has (replicate n false) p)) (first_part g i) (need_count g i) (λ p low high. ap not (has-none n p))
@@ -44,6 +46,7 @@ kept_mark-within k round p is =
       | inr ok ↦ ok
     ]
 
+-- what is kept once the send is started is sound, with all that each piece needs missing
 pub sound_start_send : (k : Kept) (missing needs : List ℕ) → IsSound k missing → k.sending ≡ false → k.sent < LAST_ROUND
     → needs ≡ map (need_count k.shape) (range_with_len 0 (pieces k.shape)) → IsSound (sending_kept k) needs
 sound_start_send k missing needs s idle more is =
@@ -82,6 +85,7 @@ sound_start_send k missing needs s idle more is =
 later_pos : (a b : ℕ) → a < b → 0 < b
 later_pos a b h = omega arith
 
+-- once the send is started, the pieces out are all those of the rounds before
 pub kept_out-sending : (k : Kept) → IsShape k.shape → kept_out (sending_kept k) ≡ k.sent * pieces k.shape
 unfolding kept_out
 kept_out-sending k v =
@@ -91,6 +95,7 @@ kept_out-sending k v =
     let before : k.sent + 1 - 1 ≡ k.sent = omega arith in
     rw (ne_eqb (k.sent + 1) 0 (λ e. omega arith), none, before) (add-zero _)
 
+-- and as many are out before, where the sender's round is whole
 pub kept_out-whole : (k : Kept) → IsShape k.shape → ((p : ℕ) → 0 < k.sent → p < k.shape.send_parts → has k.marked p ≡ true) → kept_out k ≡ k.sent * pieces k.shape
 unfolding kept_out
 kept_out-whole k v whole =
@@ -106,6 +111,7 @@ kept_out-whole k v whole =
           rw zero_is (sym (zero-mul (pieces g)))
     ]
 
+-- what is kept once the send is started stands for the record with the start
 pub stands_start_send : (k : Kept) (missing : List ℕ) (r : Record) → IsSound k missing → k.sending ≡ false → StandsFor k r → StandsFor (sending_kept k) (started_send r)
 stands_start_send k missing r s idle st =
     let g = k.shape in
@@ -157,12 +163,15 @@ receiving_kept k = record k {
   back = replicate (length k.back) false;
 }
 
+-- once the receive is started, no place was taken
 was_taken-none : (k : Kept) (round x : ℕ) → was_taken (receiving_kept k) round x ≡ false
 was_taken-none k round x = and_right _ _ (has-none (length k.taken) (x / k.shape.recv_bytes))
 
+-- and none was where the receiver is inactive
 was_taken-idle : (k : Kept) (round x : ℕ) → k.receiving ≡ false → was_taken k round x ≡ false
 was_taken-idle k round x idle = and_left _ _ (and_right (round == k.received) _ idle)
 
+-- what is kept once the receive is started stands for the record with the start
 pub stands_start_recv : (k : Kept) (r : Record) → k.receiving ≡ false → StandsFor k r → StandsFor (receiving_kept k) (started_recv r)
 unfolding kept_out pieces_out
 stands_start_recv k r idle st = record {
@@ -200,6 +209,7 @@ first_kept g buffers = record {
   buffers = buffers;
 }
 
+-- a new pair, with a buffer of zeros for each receive partition at each place, is sound
 pub sound_first : (g : Shape) (v : IsShape g) (needs : List ℕ) → needs ≡ map (need_count g) (range_with_len 0 (pieces g))
     → IsSound (first_kept g (replicate (g.depth * g.recv_parts) (replicate g.recv_bytes 0))) needs
 sound_first g v needs is = record {
@@ -231,6 +241,7 @@ sound_first g v needs is = record {
   returned = λ q inside e. absurd (false≢true (sym (has-none g.recv_parts q) ∙ e));
 }
 
+-- and stands for the record before any call
 pub stands_first : (g : Shape) (buffers : List (List ℕ)) → StandsFor (first_kept g buffers) first_record
 unfolding kept_out pieces_out
 stands_first g buffers = record {
@@ -264,6 +275,7 @@ sent_as k n marks = record k { sent = n; sending = true; marked = marks }
 abbrev pub received_as : Kept → ℕ → List Bool → List Bool → Kept
 received_as k n takes backs = record k { received = n; receiving = true; taken = takes; back = backs }
 
+-- the object after an answered start of the send is sound
 pub sound_sending : (k : Kept) (n : ℕ) (marks : List Bool) (missing needs : List ℕ) → IsSound k missing → Ok n ≡ start_answer k.sending k.sent
     → marks ≡ replicate (length k.marked) false → needs ≡ map (need_count k.shape) (range_with_len 0 (pieces k.shape)) → IsSound (sent_as k n marks) needs
 sound_sending k n marks missing needs s is marks_are needs_are =
@@ -271,6 +283,7 @@ sound_sending k n marks missing needs s is marks_are needs_are =
     let few = s.rounds.sent in let other = h.2 in
     rw (marks_are, h.1) (sound_start_send k missing needs s h.0 (omega arith) needs_are)
 
+-- an answered start of the send answers as each record says, and leaves the record with the start
 pub follows_start_send : (k : Kept) (n : ℕ) (marks : List Bool) (missing : List ℕ) → IsSound k missing → Ok n ≡ start_answer k.sending k.sent
     → marks ≡ replicate (length k.marked) false → Follows k (sent_as k n marks) (Ok n) start_send_answer after_start_send
 follows_start_send k n marks missing s is marks_are r st =
@@ -280,6 +293,7 @@ follows_start_send k n marks missing s is marks_are r st =
     let new : StandsFor (sent_as k n marks) (started_send r) = rw (marks_are, h.1) (stands_start_send k missing r s h.0 st) in
     (answer, rw next new)
 
+-- an answered start of the receive answers as each record says, and leaves the record with the start
 pub follows_start_recv : (k : Kept) (n : ℕ) (takes backs : List Bool) → Ok n ≡ start_answer k.receiving k.received
     → takes ≡ replicate (length k.taken) false → backs ≡ replicate (length k.back) false
     → Follows k (received_as k n takes backs) (Ok n) start_recv_answer after_start_recv
@@ -305,6 +319,7 @@ made_as g marks takes backs buffers = record {
   buffers = buffers;
 }
 
+-- an object with lists of the right lengths in which nothing is set is a new pair
 pub made_is : (g t : Shape) (marks takes backs : List Bool) (buffers : List (List ℕ)) → t ≡ g
     → marks ≡ replicate g.send_parts false → takes ≡ replicate g.recv_parts false → backs ≡ replicate g.recv_parts false
     → made_as t marks takes backs buffers ≡ first_kept g buffers
@@ -322,6 +337,7 @@ pub record IsMadeOf (g t : Shape) (sends recvs depth bytes : ℕ) (marks takes b
   pub backs_are : backs ≡ replicate recvs false
   pub buffers_are : buffers ≡ replicate (depth * recvs) (replicate bytes 0)
 
+-- and so is one whose lists and buffers are made from these numbers
 pub made_first : (g t : Shape) (sends recvs depth bytes : ℕ) (marks takes backs : List Bool) (buffers : List (List ℕ))
     → IsMadeOf g t sends recvs depth bytes marks takes backs buffers
     → made_as t marks takes backs buffers ≡ first_kept g (replicate (g.depth * g.recv_parts) (replicate g.recv_bytes 0))

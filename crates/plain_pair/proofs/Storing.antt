@@ -1,4 +1,5 @@
--- A send partition's bytes are stored cell by cell.
+-- A send partition's bytes are stored cell by cell. A cell lies in one receive partition, so it is one copy into one
+-- buffer; the places stored so far are those from the partition's start to the cell's.
 use Rattle.std.proofs.Common.{◌≡◌, ◌≢◌, ◌⊎◌, ℕ, ◌+◌, ◌-◌, ◌*◌, ◌/◌, ◌%◌, ◌<◌, ◌≤◌, List, [], length, drop, get_or, refl, ap, sym, ◌∙◌, arith, inl, inr}
 use Rattle.std.proofs.Math.Nat.{mul-div_left, zero-div, zero-mul, div-eq_of_lt-le}
 use Rattle.std.proofs.lemmas.Bool.{cases_lt, cases_eq}
@@ -78,6 +79,7 @@ part_places g v p first next inside is =
     let b = start-of g v next within (λ pos. omega arith) in
     (a ∙ ap (λ n. n * g.send_bytes) here, b ∙ ap (λ n. n * g.send_bytes) number)
 
+-- before the first cell nothing is stored
 pub stored_none : (g : Shape) (base low : ℕ) (bytes : List ℕ) (old : List (List ℕ)) → Stores g base low low bytes old old
 stored_none g base low bytes old = record {
   size = refl;
@@ -96,6 +98,7 @@ pub record Numbers (g : Shape) (base low c : ℕ) (bytes : List ℕ) (mid : List
   pub size : length (cell_piece g low c bytes) ≡ end g c - start g c
   pub fits : cell_offset g c + length (cell_piece g low c bytes) ≤ length (get_or mid (base + recv_of g c) [])
 
+-- what is cut out for a cell is as long as the cell, and fits into its buffer at the cell's place
 pub numbers : (g : Shape) (base low c : ℕ) (bytes : List ℕ) (mid : List (List ℕ)) → CanStore g base low c bytes mid → Numbers g base low c bytes mid
 unfolding recv_of
 numbers g base low c bytes mid w =
@@ -115,6 +118,7 @@ numbers g base low c bytes mid w =
 quotient_is : (x q r : ℕ) → 0 < r → q * r ≤ x → x < (q + 1) * r → x / r ≡ q
 quotient_is x q r pos low high = div-eq_of_lt-le r low high
 
+-- a place of the cell has the byte that is written for it
 inside_cell : (g : Shape) (base low c : ℕ) (bytes : List ℕ) (mid : List (List ℕ)) → CanStore g base low c bytes mid → (x : ℕ) → start g c ≤ x → x < end g c
     → byte_in g (cell_stored g base low c bytes mid) base x ≡ get_or bytes (x - low) 0
 inside_cell g base low c bytes mid w x from to =
@@ -132,6 +136,7 @@ inside_cell g base low c bytes mid w x from to =
     (get_or-take (end g c - low - (start g c - low)) (drop (start g c - low) bytes) (x - start g c) 0 (omega arith)
     ∙ get_or-drop (start g c - low) bytes (x - start g c) 0 ∙ ap (λ z. get_or bytes z 0) (let z : start g c - low + (x - start g c) ≡ x - low = omega arith in z))
 
+-- and each other place keeps its byte
 outside_cell : (g : Shape) (base low c : ℕ) (bytes : List ℕ) (mid : List (List ℕ)) → CanStore g base low c bytes mid → (x : ℕ) → (x < start g c) ⊎ (end g c ≤ x)
     → byte_in g (cell_stored g base low c bytes mid) base x ≡ byte_in g mid base x
 outside_cell g base low c bytes mid w x out =
@@ -158,6 +163,7 @@ outside_cell g base low c bytes mid w x out =
           ap (λ buffer. get_or buffer (x % g.recv_bytes) 0) (get_or-set_other mid (base + recv_of g c) (base + x / g.recv_bytes) _ [] apart)
     ]
 
+-- after one cell more all is stored up to its end
 pub stored_more : (g : Shape) (base low c : ℕ) (bytes : List ℕ) (old mid : List (List ℕ)) → CanStore g base low c bytes mid
     → Stores g base low (start g c) bytes old mid → Stores g base low (end g c) bytes old (cell_stored g base low c bytes mid)
 stored_more g base low c bytes old mid w s =

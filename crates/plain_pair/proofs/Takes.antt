@@ -1,4 +1,5 @@
--- A take: what is kept stays sound, stands for the record with the take, and the bytes are those of the round.
+-- A take: what is kept stays sound, stands for the record with the take, and the bytes are those of the round. Each
+-- place of a partition that has arrived was marked, so its buffer has the bytes of the record; the other buffers stay.
 use Rattle.std.proofs.Common.{◌≡◌, ◌≢◌, ℕ, ◌+◌, ◌*◌, ◌/◌, ◌%◌, ◌<◌, ◌≤◌, ◌==◌, nat_lt, Bool, true, false, cond, ◌&&◌, ◌||◌, not, Some, None, Option, Ok, Err, Result, List, [], length, get_or, set, refl, ap, sym, ◌∙◌, arith, inl, inr}
 use Rattle.std.specs.FinSet as parts
 use Rattle.std.specs.Cmp.{nat_cmp_total}
@@ -32,6 +33,7 @@ place_of k q = buffer_place k.shape k.received q
 abbrev pub taken_kept : Kept → ℕ → Kept
 taken_kept k q = record k { taken = set k.taken q true; buffers = set k.buffers (place_of k q) [] }
 
+-- a take changes no round
 same_rounds : (k : Kept) (q : ℕ) → HasRounds k → HasRounds (taken_kept k q)
 same_rounds k q r = record {
   sent = r.sent;
@@ -64,6 +66,7 @@ away_after : (k : Kept) (q place x : ℕ) → q < length k.taken → is_away (ta
 away_after k q place x there here other =
     ap (λ b. (k.receiving && (place == k.received % k.shape.depth)) && (b && not (has k.back x))) (sym (has-set_other k.taken q x other)) ∙ here
 
+-- after a take each buffer that is there is full
 full_after : (k : Kept) (missing : List ℕ) (q : ℕ) → IsSound k missing → CanTake k q → (place x : ℕ) → place < k.shape.depth → x < k.shape.recv_parts
     → is_away (taken_kept k q) place x ≡ false → length (get_or (set k.buffers (place_of k q) []) (place * k.shape.recv_parts + x) []) ≡ k.shape.recv_bytes
 full_after k missing q s m place x low high here =
@@ -85,6 +88,7 @@ full_after k missing q s m place x low high here =
           ])
     ]
 
+-- what is kept after a take of a partition that has arrived is sound
 pub sound_take : (k : Kept) (missing : List ℕ) (q : ℕ) → IsSound k missing → CanTake k q → kept_missing k q ≡ None → IsSound (taken_kept k q) missing
 sound_take k missing q s m none =
     let g = k.shape in
@@ -148,6 +152,7 @@ byte_stays k missing q round x s m later upto inside free =
     false≢true (sym free ∙ taken) in
     ap (λ buffer. get_or buffer (x % g.recv_bytes) 0) (get_or-set_other k.buffers (place_of k q) (buffer_place g round (x / g.recv_bytes)) [] [] apart)
 
+-- and stands for the record with the take
 pub stands_take : (k : Kept) (missing : List ℕ) (r : Record) (q : ℕ) → IsSound k missing → CanTake k q → StandsFor k r → StandsFor (taken_kept k q) (took r q)
 unfolding kept_out pieces_out
 stands_take k missing r q s m st =
@@ -203,6 +208,7 @@ taken_bytes k missing r q s m none st =
     ∙ ap (λ n. byte_at g (round_of r n) x) received_is
     ∙ sym (get_or-map-range_with_len (λ x. byte_at g (round_of r r.received) (q * g.recv_bytes + x)) 0 g.recv_bytes i i 0 low (omega arith)))
 
+-- such a take gives the bytes that each record says, and leaves the record with the take
 pub takes : (k : Kept) (missing : List ℕ) (q : ℕ) → IsSound k missing → CanTake k q → kept_missing k q ≡ None
     → Takes k (taken_kept k q) q record { round = k.received; partition = q; bytes = get_or k.buffers (place_of k q) [] }
 takes k missing q s m none r st =
@@ -233,11 +239,13 @@ abbrev pub take_by : Result (Unit {0}) PlainTake → Taken → Result Taken Plai
 take_by (Ok u) taken = Ok taken
 take_by (Err e) taken = Err e
 
+-- a take answers the least piece that is missing, or where none is what it gives
 by_missing : (o : Option ℕ) (taken : Taken)
     → option_map_or {U = Result Taken PlainTake} (λ i. Err (take.NotYet i)) o (Ok taken) ≡ take_by (option_map_or {U = Result (Unit {0}) PlainTake} (λ i. Err (take.NotYet i)) o (Ok tt)) taken
 by_missing (Some i) taken = refl
 by_missing None taken = refl
 
+-- a take answers by each record the first cause against it by what is kept, or where there is none what it gives
 pub take_is : (k : Kept) (missing : List ℕ) (r : Record) (q : ℕ) → IsSound k missing → StandsFor k r
     → take_answer k.shape r q ≡ take_by (take_refusal k q) (taken_of k.shape r q)
 unfolding kept_missing
@@ -255,6 +263,7 @@ take_is k missing r q s st =
       ]
     ]
 
+-- a refused take answers as each record says, and changes nothing
 pub follows_refused_take : (k : Kept) (missing : List ℕ) (q : ℕ) (e : PlainTake) → IsSound k missing → Err e ≡ take_refusal k q
     → Follows {A = Result Taken PlainTake} k k (Err e) (λ r. take_answer k.shape r q) (λ r. after_take k.shape r q)
 follows_refused_take k missing q e s refused r st =
@@ -262,6 +271,7 @@ follows_refused_take k missing q e s refused r st =
     let next : after_take k.shape r q ≡ r = rw answer refl in
     (sym answer, rw next st)
 
+-- a take that is made answers as each record says, and leaves the record with the take
 pub follows_taken : (k new : Kept) (missing : List ℕ) (q : ℕ) (taken : Taken) (u : Unit {0}) → IsSound k missing → Ok u ≡ take_refusal k q → Takes k new q taken
     → Follows {A = Result Taken PlainTake} k new (Ok taken) (λ r. take_answer k.shape r q) (λ r. after_take k.shape r q)
 follows_taken k new missing q taken u s free takes r st =

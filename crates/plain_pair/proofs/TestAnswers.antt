@@ -1,4 +1,5 @@
--- The tests of both sides: their answers by what is kept, and what a side that becomes inactive leaves.
+-- The tests of both sides: their answers by what is kept, and what a side that becomes inactive leaves. What is marked,
+-- taken and given back is the same by both, so the least that is left out is too.
 use Rattle.std.proofs.Common.{◌≡◌, ℕ, ◌+◌, ◌*◌, ◌/◌, ◌%◌, ◌<◌, ◌≤◌, ◌==◌, nat_lt, Bool, true, false, ◌&&◌, not, Some, None, List, length, refl, ap, sym, ◌∙◌, arith, inl, inr, if◌then◌else◌}
 use Rattle.std.specs.FinSet as parts
 use Rattle.std.specs.Option.{option_map_or}
@@ -31,6 +32,7 @@ kept_test_send k =
     option_map_or send.Unmarked (least_without (length k.marked) (has k.marked))
     (if nat_lt k.sent (k.released + k.shape.depth) then send.Done else send.Unreleased k.released)
 
+-- the test of the send answers by each record what it answers by what is kept
 pub test_send_is : (k : Kept) (missing : List ℕ) (r : Record) → IsSound k missing → StandsFor k r → test_send_answer k.shape r ≡ kept_test_send k
 test_send_is k missing r s st =
     elim (cases_Bool k.sending) [
@@ -44,12 +46,14 @@ test_send_is k missing r s st =
           (ap (λ o. option_map_or send.Unmarked o (if nat_lt k.sent (k.released + k.shape.depth) then send.Done else send.Unreleased k.released)) same)
     ]
 
+-- where it tells an unmarked partition, it answers as each record says, and changes nothing
 pub follows_unmarked : (k : Kept) (missing : List ℕ) (p : ℕ) → IsSound k missing → kept_test_send k ≡ send.Unmarked p
     → Follows k k (send.Unmarked p) (λ r. test_send_answer k.shape r) (λ r. after_test_send k.shape r)
 follows_unmarked k missing p s is r st =
     let answer = test_send_is k missing r s st ∙ is in
     (sym answer, rw answer st)
 
+-- so it does where it tells the released round
 pub follows_unreleased : (k : Kept) (missing : List ℕ) (n : ℕ) → IsSound k missing → kept_test_send k ≡ send.Unreleased n
     → Follows k k (send.Unreleased n) (λ r. test_send_answer k.shape r) (λ r. after_test_send k.shape r)
 follows_unreleased k missing n s is r st =
@@ -60,6 +64,7 @@ follows_unreleased k missing n s is r st =
 abbrev pub sent_kept : Kept → Kept
 sent_kept k = record k { sending = false }
 
+-- what is kept once the sender is inactive stands for the record in which it is
 stands_sent : (k : Kept) (r : Record) → StandsFor k r → StandsFor (sent_kept k) (record r { sending = false })
 unfolding kept_out pieces_out
 stands_sent k r st = record {
@@ -75,12 +80,14 @@ stands_sent k r st = record {
   bytes = st.bytes;
 }
 
+-- where it is done, it answers as each record says, and leaves the record with the sender inactive
 pub follows_sent : (k : Kept) (missing : List ℕ) → IsSound k missing → kept_test_send k ≡ send.Done
     → Follows k (sent_kept k) send.Done (λ r. test_send_answer k.shape r) (λ r. after_test_send k.shape r)
 follows_sent k missing s is r st =
     let answer = test_send_is k missing r s st ∙ is in
     (sym answer, rw answer (stands_sent k r st))
 
+-- where all is marked and the next round has room, what is kept once the sender is inactive is sound
 pub sound_sent : (k : Kept) (missing : List ℕ) → IsSound k missing → least_without (length k.marked) (has k.marked) ≡ None → k.sent < k.released + k.shape.depth
     → IsSound (sent_kept k) missing
 sound_sent k missing s none room = record {
@@ -117,10 +124,12 @@ kept_test_recv k =
     option_map_or recv.Untaken (least_without (length k.taken) (has k.taken))
     (option_map_or recv.Out (least_without (length k.back) (has k.back)) recv.Done)
 
+-- two tests that agree on the partitions leave out the same one first
 least_same : (n m : ℕ) (a b : ℕ → Bool) → m ≡ n → ((x : ℕ) → x < n → b x ≡ a x) → least_without n a ≡ least_without m b
 least_same n m a b size same =
     find-same (λ x. not (a x)) (λ x. not (b x)) n 0 (λ x low high. ap not (sym (same x (omega arith)))) ∙ ap (λ n. least_without n b) (sym size)
 
+-- the test of the receive answers by each record what it answers by what is kept
 pub test_recv_is : (k : Kept) (missing : List ℕ) (r : Record) → IsSound k missing → StandsFor k r → test_recv_answer k.shape r ≡ kept_test_recv k
 test_recv_is k missing r s st =
     let taken = least_same k.shape.recv_parts (length k.taken) (parts.contains r.taken) (has k.taken) s.sizes.taken_size st.taken in
@@ -132,12 +141,14 @@ test_recv_is k missing r s st =
           ∙ ap (λ o. option_map_or recv.Untaken (least_without (length k.taken) (has k.taken)) (option_map_or recv.Out o recv.Done)) back)
     ]
 
+-- where it tells a partition that isn't taken, it answers as each record says, and changes nothing
 pub follows_untaken : (k : Kept) (missing : List ℕ) (q : ℕ) → IsSound k missing → kept_test_recv k ≡ recv.Untaken q
     → Follows k k (recv.Untaken q) (λ r. test_recv_answer k.shape r) (λ r. after_test_recv k.shape r)
 follows_untaken k missing q s is r st =
     let answer = test_recv_is k missing r s st ∙ is in
     (sym answer, rw answer st)
 
+-- so it does where it tells one that isn't given back
 pub follows_out : (k : Kept) (missing : List ℕ) (q : ℕ) → IsSound k missing → kept_test_recv k ≡ recv.Out q
     → Follows k k (recv.Out q) (λ r. test_recv_answer k.shape r) (λ r. after_test_recv k.shape r)
 follows_out k missing q s is r st =
@@ -148,6 +159,7 @@ follows_out k missing q s is r st =
 abbrev pub received_kept : Kept → Kept
 received_kept k = record k { released = k.received; receiving = false }
 
+-- what is kept once the round is released stands for the record in which it is
 stands_received : (k : Kept) (missing : List ℕ) (r : Record) → IsSound k missing → k.receiving ≡ true → StandsFor k r
     → StandsFor (received_kept k) (record r { released = r.received; receiving = false })
 unfolding kept_out pieces_out
@@ -168,6 +180,7 @@ stands_received k missing r s active st =
           st.bytes round x (omega arith) upto inside is other;
     }
 
+-- where it is done, it answers as each record says, and leaves the record with the round released
 pub follows_received : (k : Kept) (missing : List ℕ) → IsSound k missing → k.receiving ≡ true → kept_test_recv k ≡ recv.Done
     → Follows k (received_kept k) recv.Done (λ r. test_recv_answer k.shape r) (λ r. after_test_recv k.shape r)
 follows_received k missing s active is r st =
@@ -186,6 +199,7 @@ all_marked k missing s active none p inside =
     let taken = each_among (length k.taken) (has k.taken) none (x / g.recv_bytes) (let e = s.sizes.taken_size in omega arith) in
     ap (kept_mark k k.received) (sym (div-mul-add p g.send_bytes 0 (omega (arith, v.send_bytes.0)))) ∙ s.arrived active (x / g.recv_bytes) x part taken within refl
 
+-- where all is taken and given back, what is kept once the round is released is sound
 pub sound_received : (k : Kept) (missing : List ℕ) → IsSound k missing → k.receiving ≡ true → least_without (length k.taken) (has k.taken) ≡ None
     → least_without (length k.back) (has k.back) ≡ None → IsSound (received_kept k) missing
 sound_received k missing s active none none_out =
@@ -223,25 +237,30 @@ sound_received k missing s active none none_out =
       returned = s.returned;
     }
 
--- the cases of the tests
+-- where a partition is unmarked, the test of the send tells the least
 pub at_unmarked : (k : Kept) (p : ℕ) → k.sending ≡ true → Some p ≡ least_without (length k.marked) (has k.marked) → kept_test_send k ≡ send.Unmarked p
 at_unmarked k p active found = rw (active, ← found) refl
 
+-- where none is and the next round has no room, it tells the released round
 pub at_unreleased : (k : Kept) → k.sending ≡ true → None ≡ least_without (length k.marked) (has k.marked) → k.released + k.shape.depth ≤ k.sent
     → kept_test_send k ≡ send.Unreleased k.released
 at_unreleased k active none full = rw (active, ← none, le-ltb k.sent (k.released + k.shape.depth) full) refl
 
+-- where the next round has room, it is done
 pub at_sent : (k : Kept) → k.sending ≡ true → None ≡ least_without (length k.marked) (has k.marked) → k.sent < k.released + k.shape.depth
     → kept_test_send k ≡ send.Done
 at_sent k active none room = rw (active, ← none, lt-ltb k.sent (k.released + k.shape.depth) room) refl
 
+-- where a partition isn't taken, the test of the receive tells the least
 pub at_untaken : (k : Kept) (q : ℕ) → k.receiving ≡ true → Some q ≡ least_without (length k.taken) (has k.taken) → kept_test_recv k ≡ recv.Untaken q
 at_untaken k q active found = rw (active, ← found) refl
 
+-- where all are taken and one isn't given back, it tells the least
 pub at_out : (k : Kept) (q : ℕ) → k.receiving ≡ true → None ≡ least_without (length k.taken) (has k.taken) → Some q ≡ least_without (length k.back) (has k.back)
     → kept_test_recv k ≡ recv.Out q
 at_out k q active none found = rw (active, ← none, ← found) refl
 
+-- where all are given back, it is done
 pub at_received : (k : Kept) → k.receiving ≡ true → None ≡ least_without (length k.taken) (has k.taken) → None ≡ least_without (length k.back) (has k.back)
     → kept_test_recv k ≡ recv.Done
 at_received k active none none_out = rw (active, ← none, ← none_out) refl

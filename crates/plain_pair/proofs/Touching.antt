@@ -1,4 +1,5 @@
--- The pieces that a send partition touches, and what a mark changes of what is missing.
+-- The pieces that a send partition touches, and what a mark changes of what is missing: one less in each of these
+-- pieces, and nothing in the others.
 use Rattle.std.proofs.Common.{◌≡◌, ◌≢◌, ◌⊎◌, ℕ, zero, suc, ◌+◌, ◌-◌, ◌<◌, ◌≤◌, ◌==◌, Bool, true, false, cond, not, List, length, set, count_by, ap, sym, ◌∙◌, arith, inl, inr}
 use Rattle.std.specs.List.{range_with_len}
 use Rattle.std.proofs.lemmas.Bool.{cases_lt, cases_eq, eq-eqb, ne_eqb}
@@ -57,7 +58,7 @@ pieces_of_part g v p first next is =
           ];
     }
 
--- a mark is there, and the others stay
+-- a mark sets its own partition, and leaves the others
 pub has-set : (marks : List Bool) (p x : ℕ) → p < length marks → has (set marks p true) x ≡ cond (x == p) true (has marks x)
 has-set marks p x inside =
     elim (cases_eq x p) [
@@ -65,9 +66,11 @@ has-set marks p x inside =
       | inr other ↦ get_or-set_other marks p x true false other ∙ sym (ap (λ b. cond b true (has marks x)) (ne_eqb x p other))
     ]
 
+-- a mark leaves another partition as it was
 pub has-set_other : (marks : List Bool) (p x : ℕ) → x ≢ p → has (set marks p true) x ≡ has marks x
 has-set_other marks p x other = get_or-set_other marks p x true false other
 
+-- and its own is set
 pub has-set_same : (marks : List Bool) (p : ℕ) → p < length marks → has (set marks p true) p ≡ true
 has-set_same marks p inside = get_or-set_same marks p true false inside
 
@@ -88,6 +91,7 @@ count-drop f f' (suc n) a p low high was is others =
           let same : cond {A = ℕ} (f' a) 1 0 ≡ cond (f a) 1 0 = ap (λ b. cond b 1 0) (others a before) in omega arith
     ]
 
+-- a mark leaves one partition less unmarked in a piece that its partition touches
 pub unmarked-touched : (g : Shape) (marks : List Bool) (p i : ℕ) → p < length marks → has marks p ≡ false → first_part g i ≤ p → p < first_part g i + need_count g i
     → unmarked g (set marks p true) i + 1 ≡ unmarked g marks i
 unfolding unmarked needed
@@ -95,6 +99,7 @@ unmarked-touched g marks p i inside free low high =
     count-drop (λ x. not (has marks x)) (λ x. not (has (set marks p true) x)) (need_count g i) (first_part g i) p low high (ap not free)
     (ap not (has-set_same marks p inside)) (λ x other. ap not (has-set_other marks p x other))
 
+-- and as many as before in one that it doesn't touch
 pub unmarked-apart : (g : Shape) (marks : List Bool) (p i : ℕ) → (p < first_part g i) ⊎ (first_part g i + need_count g i ≤ p)
     → unmarked g (set marks p true) i ≡ unmarked g marks i
 unfolding unmarked needed

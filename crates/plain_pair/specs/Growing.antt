@@ -38,4 +38,5 @@ pub record IsAt (kept : Kept) (marks : Marks) (done : Progress) : Type 0 where
 -- one mark more: the counts go on, or the call ends with this answer
 abbrev pub GoesOn : Kept → Marks → Result (Unit {0}) PlainStop → Progress → Type 0
 GoesOn kept marks result done =
-    StandsFor kept done.after × MatchResult result (λ _. IsAt kept marks done) (λ stop. told marks.round done ≡ Err stop)
+    StandsFor kept done.after
+    × MatchResult result (λ _. IsAt kept marks done) (λ stop. told marks.round done ≡ Err stop)

@@ -49,4 +49,5 @@ is_whole g marks i = list_all (has marks) (needed g i)
 -- how many pieces are out
 unfoldable pub kept_out : Kept → ℕ
 kept_out kept = if kept.sent == 0 then 0
-    else (kept.sent - 1) * pieces kept.shape + count_by (is_whole kept.shape kept.marked) (range_with_len 0 (pieces kept.shape))
+    else (kept.sent - 1) * pieces kept.shape
+    + count_by (is_whole kept.shape kept.marked) (range_with_len 0 (pieces kept.shape))

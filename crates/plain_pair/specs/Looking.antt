@@ -13,11 +13,13 @@ use Rattle.plain_pair.specs.StandsFor.{StandsFor}
 
 -- a piece is out in the receiver's round: the sender is past that round, or in it with the piece whole
 abbrev pub kept_piece_out : Kept → ℕ → Bool
-kept_piece_out kept i = nat_lt kept.received kept.sent || ((kept.received == kept.sent) && is_whole kept.shape kept.marked i)
+kept_piece_out kept i =
+    nat_lt kept.received kept.sent || ((kept.received == kept.sent) && is_whole kept.shape kept.marked i)
 
 -- the least piece over receive partition q that isn't out
 unfoldable pub kept_missing : Kept → ℕ → Option ℕ
-kept_missing kept q = find (λ i. is_over kept.shape q i && not (kept_piece_out kept i)) (range_with_len 0 (pieces kept.shape))
+kept_missing kept q =
+    find (λ i. is_over kept.shape q i && not (kept_piece_out kept i)) (range_with_len 0 (pieces kept.shape))
 
 -- the first cause against a take, by what is kept
 abbrev pub take_refusal : Kept → ℕ → Result (Unit {0}) PlainTake

@@ -37,7 +37,8 @@ counted done next (Err cause) = record done { refused = Some cause }
 
 abbrev pub mark_one_more : Shape → ℕ → Progress → ℕ × List ℕ → Progress
 mark_one_more g k done e =
-    if is_some done.refused then done else counted done (marked done.after e.0 e.1) (pready_answer g done.after k e.0 e.1)
+    if is_some done.refused then done
+    else counted done (marked done.after e.0 e.1) (pready_answer g done.after k e.0 e.1)
 
 -- the entries, marked in order
 abbrev pub progress : Shape → Record → ℕ → List (ℕ × List ℕ) → Progress
@@ -46,7 +47,8 @@ progress g r k es = fold (mark_one_more g k) (no_progress r) es
 -- what is answered at the end of the marks
 abbrev pub told : ℕ → Progress → Result Marks PlainStop
 told k done =
-    option_map_or (λ cause. Err record { at = done.count; cause = cause }) done.refused (Ok record { round = k; count = done.count; sent = done.sent })
+    option_map_or (λ cause. Err record { at = done.count; cause = cause }) done.refused
+    (Ok record { round = k; count = done.count; sent = done.sent })
 
 -- a list is refused as a whole where the bytes aren't as many as its entries have
 abbrev pub whole_length : Shape → List ℕ → List ℕ → Option PlainRefusal
@@ -54,7 +56,8 @@ whole_length g parts bytes = if length bytes == length parts * g.send_bytes then
 
 -- and a range before that where it has no partition or ends past the last one
 abbrev pub whole_range : Shape → ℕ → ℕ → List ℕ → List ℕ → Option PlainRefusal
-whole_range g low high parts bytes = if nat_lt high low || not (nat_lt high g.send_parts) then Some BadRange else whole_length g parts bytes
+whole_range g low high parts bytes =
+    if nat_lt high low || not (nat_lt high g.send_parts) then Some BadRange else whole_length g parts bytes
 
 -- the progress of a call, which is none where it is refused as a whole
 abbrev pub progress_unless : Option PlainRefusal → Shape → Record → ℕ → List (ℕ × List ℕ) → Progress

@@ -23,10 +23,15 @@ pub record StoppedAt (g : Shape) (r : Record) (k : ℕ) (es : List (ℕ × List 
   pub next : ℕ × List ℕ
   pub there : slice_get es stop.at ≡ Some next
   pub after : (progress g r k es).after ≡ with_marks r (take stop.at es)
-  pub refused : ◌≡◌ {A = Result Marked PlainRefusal} (pready_answer g (with_marks r (take stop.at es)) k next.0 next.1) (Err stop.cause)
+  pub refused : ◌≡◌ {A = Result Marked PlainRefusal}
+      (pready_answer g (with_marks r (take stop.at es)) k next.0 next.1) (Err stop.cause)
 
 abbrev pub AcceptedMarkAll : Type 0
-AcceptedMarkAll = (g : Shape) (r : Record) (k : ℕ) (es : List (ℕ × List ℕ)) (marks : Marks) → told k (progress g r k es) ≡ Ok marks → AllMarked g r k es marks
+AcceptedMarkAll =
+    (g : Shape) (r : Record) (k : ℕ) (es : List (ℕ × List ℕ)) (marks : Marks)
+    → told k (progress g r k es) ≡ Ok marks → AllMarked g r k es marks
 
 abbrev pub RefusedKeepMarks : Type 0
-RefusedKeepMarks = (g : Shape) (r : Record) (k : ℕ) (es : List (ℕ × List ℕ)) (stop : PlainStop) → told k (progress g r k es) ≡ Err stop → StoppedAt g r k es stop
+RefusedKeepMarks =
+    (g : Shape) (r : Record) (k : ℕ) (es : List (ℕ × List ℕ)) (stop : PlainStop)
+    → told k (progress g r k es) ≡ Err stop → StoppedAt g r k es stop

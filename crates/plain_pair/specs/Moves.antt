@@ -53,7 +53,8 @@ after_start_recv r = on_ok (start_recv_answer r) (started_recv r) r
 
 -- a mark puts a partition with its bytes into the last round
 abbrev pub marked : Record → ℕ → List ℕ → Record
-marked r p bytes = record r { rounds = slice_set r.rounds (send_round r - 1) (rounds.insert (round_of r (send_round r)) p bytes) }
+marked r p bytes =
+    record r { rounds = slice_set r.rounds (send_round r - 1) (rounds.insert (round_of r (send_round r)) p bytes) }
 
 -- what a take of partition q gives
 abbrev pub taken_of : Shape → Record → ℕ → Taken

@@ -44,6 +44,7 @@ pub record IsSound (kept : Kept) (missing : List ℕ) : Type 0 where
   pub counts : (i : ℕ) → i < pieces kept.shape → slice_index missing i ≡ unmarked kept.shape kept.marked i
   pub whole : kept.sending ≡ false → 0 < kept.sent → (p : ℕ) → p < kept.shape.send_parts → has kept.marked p ≡ true
   pub done : kept.released ≡ kept.sent → 0 < kept.sent → (p : ℕ) → p < kept.shape.send_parts → has kept.marked p ≡ true
-  pub arrived : kept.receiving ≡ true → (q x : ℕ) → q < kept.shape.recv_parts → has kept.taken q ≡ true → x < send_total kept.shape
-      → x / kept.shape.recv_bytes ≡ q → kept_mark kept kept.received (x / kept.shape.send_bytes) ≡ true
+  pub arrived : kept.receiving ≡ true → (q x : ℕ) → q < kept.shape.recv_parts → has kept.taken q ≡ true
+      → x < send_total kept.shape → x / kept.shape.recv_bytes ≡ q
+      → kept_mark kept kept.received (x / kept.shape.send_bytes) ≡ true
   pub returned : (q : ℕ) → q < kept.shape.recv_parts → has kept.back q ≡ true → has kept.taken q ≡ true

@@ -53,7 +53,8 @@ pub record ArePiecesOf (g : Shape) (p first end : ℕ) : Type 0 where
   pub some : first < end
   pub inside : end ≤ pieces g
   pub touch : (i : ℕ) → first ≤ i → i < end → (first_part g i ≤ p) × (p < first_part g i + need_count g i)
-  pub apart : (i : ℕ) → i < pieces g → (i < first) ⊎ (end ≤ i) → (p < first_part g i) ⊎ (first_part g i + need_count g i ≤ p)
+  pub apart : (i : ℕ) → i < pieces g → (i < first) ⊎ (end ≤ i)
+      → (p < first_part g i) ⊎ (first_part g i + need_count g i ≤ p)
 
 -- the pieces over a receive partition are those with a cell of it
 pub record ArePiecesOver (g : Shape) (q first end : ℕ) : Type 0 where

@@ -90,7 +90,8 @@ impl PlainPair {
         ensures counts { OnOk result (IsCounted self.new marks.new) }
         ensures count { OnOk result (marks.new.count ≡ marks.old.count + 1) }
         ensures goes_on { (done : _) → IsAt self.old marks.old done
-            → GoesOn self.new marks.new result (mark_one_more self.old.shape marks.old.round done (p, part_of self.old.shape bytes.now marks.old.count)) }
+            → GoesOn self.new marks.new result (mark_one_more self.old.shape marks.old.round done
+            (p, part_of self.old.shape bytes.now marks.old.count)) }
     {
         let size = self.geometry().send_bytes() as usize;
         let start = marks.count as usize * size;

@@ -37,7 +37,8 @@ pub(crate) fn store(tables: &Tables, buffers: &mut Vec<Buffer>, base: usize, p: 
     requires part { p < tables.now.send_parts }
     requires length { length bytes.now ≡ tables.now.send_bytes }
     requires buffers { base + tables.now.recv_parts ≤ length buffers.old.items }
-    requires room { HasRoom tables.now base (p * tables.now.send_bytes) ((p + 1) * tables.now.send_bytes) buffers.old.items }
+    requires room { HasRoom tables.now base
+        (p * tables.now.send_bytes) ((p + 1) * tables.now.send_bytes) buffers.old.items }
     ensures { Stores tables.now base (p * tables.now.send_bytes) ((p + 1) * tables.now.send_bytes) bytes.now
         buffers.old.items buffers.new.items }
 {

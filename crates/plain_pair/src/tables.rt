@@ -65,7 +65,8 @@ fn piece_needs(
 ) -> Result<Vec<u32>, AllocError>
     requires cells { all.now ≡ map (cell_at geometry) (range_with_len 0 (cells geometry)) }
     requires firsts { AreFirsts Row.Piece geometry firsts.now }
-    ensures needs { IfOk result (λ needs. needs.items ≡ map (need_count geometry) (range_with_len 0 (pieces geometry))) }
+    ensures needs { IfOk result (λ needs.
+        needs.items ≡ map (need_count geometry) (range_with_len 0 (pieces geometry))) }
 {
     // The geometry's limits, for the proof.
     let _total = geometry.total();
@@ -97,7 +98,8 @@ impl Model for Tables {
 
     ghost view = { λ t. t.geometry };
 
-    ghost invariant = { λ t. AreTables t.geometry t.cells.items t.sends.items t.recvs.items t.pieces.items t.needs.items };
+    ghost invariant = { λ t.
+        AreTables t.geometry t.cells.items t.sends.items t.recvs.items t.pieces.items t.needs.items };
 }
 
 impl Tables {
