@@ -8,7 +8,8 @@ use init_match::{Matched, World};
 
 /// The pair that was completed last.
 pub fn last_pair(world: &World) -> Option<Matched>
-    ensures { IfSome result (λ pair. slice_get (matched_pairs world.now) (length (pairs_of world.now.calls) - 1) ≡ Some pair) }
+    ensures { IfSome result (λ pair.
+        slice_get (matched_pairs world.now) (length (pairs_of world.now.calls) - 1) ≡ Some pair) }
 {
     let count = world.pair_count();
     if count == 0 {

@@ -1,4 +1,5 @@
--- The map of keys and the lists behind it.
+-- The map of keys and the lists behind it. The map says which list is that of a key; each key with a list has one of
+-- its own, so a change of one list changes no other key.
 use Rattle.std.proofs.Common.{◌≡◌, ◌≢◌, ℕ, ◌+◌, ◌==◌, Bool, true, false, cond, ◌&&◌, Some, None, Option, Ok, Err, Result, [], ◌∷◌, ◌++◌, length, get_or, set, length-append, refl, ap, sym, ◌∙◌, arith, inl, inr}
 use Rattle.std.specs.Result.{OnOk, OnErr}
 use Rattle.std.specs.Ordering.{nat_cmp, ordering_then, is_eq}
@@ -16,21 +17,24 @@ use Rattle.init_match.specs.Calls.{same_key, same_side}
 use Rattle.init_match.specs.Slots.{Slots, no_slots, side_slots, with_slot, appended}
 use Rattle.init_match.specs.KeyLists.{key_cmp, place_of, slots_at, lists_of, IsKeyLists, SameLists}
 
--- keys that tie are equal
+-- one order and then another tie exactly where both do
 then_ties : (a b : Ordering) → is_eq (ordering_then a b) ≡ (is_eq a && is_eq b)
 then_ties Less b = refl
 then_ties Equal b = refl
 then_ties Greater b = refl
 
+-- numbers tie in their order exactly where they are equal
 nat_ties : (x y : ℕ) → is_eq (nat_cmp x y) ≡ (x == y)
 nat_ties x y = sym (unsigned_ties x y)
 
+-- keys tie in their order exactly where they have the same four numbers
 pub key_ties : (a b : Key) → is_eq (key_cmp a b) ≡ same_key a b
 key_ties a b =
     then_ties (nat_cmp a.comm b.comm) _
     ∙ ap (λ t. is_eq (nat_cmp a.comm b.comm) && t) (then_ties (nat_cmp a.from b.from) _ ∙ ap (λ t. is_eq (nat_cmp a.from b.from) && t) (then_ties (nat_cmp a.to b.to) _))
     ∙ rw (nat_ties a.comm b.comm, nat_ties a.from b.from, nat_ties a.to b.to, nat_ties a.tag b.tag) refl
 
+-- keys with the same four numbers are equal
 pub key-same : (a b : Key) → same_key a b ≡ true → a ≡ b
 key-same a b same =
     let p = and_parts (a.comm == b.comm) ((a.from == b.from) && ((a.to == b.to) && (a.tag == b.tag))) same in
@@ -41,11 +45,13 @@ key-same a b same =
     by_parts : a.comm ≡ b.comm → a.from ≡ b.from → a.to ≡ b.to → a.tag ≡ b.tag → record { comm = a.comm; from = a.from; to = a.to; tag = a.tag } ≡ b
     by_parts p q r s = rw (p, q, r, s) refl
 
+-- a key has the same numbers as itself
 pub same-key : (a : Key) → same_key a a ≡ true
 same-key a =
     and_from (a.comm == a.comm) _ (eq-eqb a.comm a.comm refl)
     (and_from (a.from == a.from) _ (eq-eqb a.from a.from refl) (and_from (a.to == a.to) (a.tag == a.tag) (eq-eqb a.to a.to refl) (eq-eqb a.tag a.tag refl)))
 
+-- which of two keys comes first makes no difference to that
 pub same_key-sym : (a b : Key) → same_key a b ≡ same_key b a
 same_key-sym a b =
     elim (cases_Bool (same_key a b)) [
@@ -56,16 +62,17 @@ same_key-sym a b =
       ]
     ]
 
--- the lists of a key that has none
+-- a key that has no list has no slots
 pub lists_none : (m : KeyLists) (s : Side) (q : Key) → place_of m q ≡ None → lists_of m s q ≡ []
 unfolding lists_of
 lists_none m s q none = rw none refl
 
+-- a key that has a list has that list's slots
 pub lists_some : (m : KeyLists) (s : Side) (q : Key) (i : ℕ) → place_of m q ≡ Some i → lists_of m s q ≡ slots_at s m.lists.items i
 unfolding lists_of
 lists_some m s q i some = rw some refl
 
--- the same places and the same lists
+-- where places and lists are the same, so are the slots of each key
 pub same_lists : (m n : KeyLists) → ((q : Key) → place_of n q ≡ place_of m q) → n.lists.items ≡ m.lists.items → SameLists m n
 unfolding lists_of
 same_lists m n places items s q = rw (places q, items) refl
@@ -76,15 +83,19 @@ pub record IsPlaced (m n : KeyLists) (key : Key) : Type 0 where
   pub places : (q : Key) → place_of n q ≡ cond (is_eq (key_cmp key q)) (Some (length m.lists.items)) (place_of m q)
   pub items : n.lists.items ≡ m.lists.items ++ no_slots ∷ []
 
+-- another key is where it was
 place_before : (m n : KeyLists) (key q : Key) → IsPlaced m n key → same_key key q ≡ false → place_of n q ≡ place_of m q
 place_before m n key q p other = p.places q ∙ cond-false _ _ _ (key_ties key q ∙ other)
 
+-- a key with the same numbers is at the new list
 place_new : (m n : KeyLists) (key q : Key) → IsPlaced m n key → same_key key q ≡ true → place_of n q ≡ Some (length m.lists.items)
 place_new m n key q p same = p.places q ∙ cond-true _ _ _ (key_ties key q ∙ same)
 
+-- the key is at the new list
 pub place_here : (m n : KeyLists) (key : Key) → IsPlaced m n key → place_of n key ≡ Some (length m.lists.items)
 place_here m n key p = place_new m n key key p (same-key key)
 
+-- then each key with a list still has one of its own
 pub valid_placed : (m n : KeyLists) (key : Key) → IsKeyLists m → IsPlaced m n key → IsKeyLists n
 valid_placed m n key v p =
     let size : length n.lists.items ≡ length m.lists.items + 1 = ap length p.items ∙ length-append m.lists.items (no_slots ∷ []) in
@@ -117,6 +128,7 @@ none_slots : (s : Side) → side_slots s no_slots ≡ []
 none_slots SendSide = refl
 none_slots RecvSide = refl
 
+-- and each key has the slots that it had, as the new list is empty
 pub same_placed : (m n : KeyLists) (key : Key) → IsKeyLists m → IsPlaced m n key → SameLists m n
 same_placed m n key v p s q =
     elim (cases_Bool (same_key key q)) [
@@ -140,12 +152,14 @@ pub record IsPushed (m n : KeyLists) (side : Side) (key : Key) (slot i : ℕ) : 
   pub places : (q : Key) → place_of n q ≡ place_of m q
   pub items : n.lists.items ≡ set m.lists.items i (with_slot side slot (get_or m.lists.items i no_slots))
 
+-- a slot more on one side of a key's slots is one more there, and none on the other side
 slots_more : (s side : Side) (slot : ℕ) (k : Slots) → side_slots s (with_slot side slot k) ≡ appended (same_side s side) slot (side_slots s k)
 slots_more SendSide SendSide slot k = refl
 slots_more SendSide RecvSide slot k = refl
 slots_more RecvSide SendSide slot k = refl
 slots_more RecvSide RecvSide slot k = refl
 
+-- a slot more in a list leaves each key with a list of its own
 pub valid_pushed : (m n : KeyLists) (side : Side) (key : Key) (slot i : ℕ) → IsKeyLists m → IsPushed m n side key slot i → IsKeyLists n
 valid_pushed m n side key slot i v p =
     let size : length n.lists.items ≡ length m.lists.items = ap length p.items ∙ length-set m.lists.items i _ in
@@ -162,6 +176,7 @@ and_yes : (b : Bool) → (b && true) ≡ b
 and_yes true = refl
 and_yes false = refl
 
+-- the side and key of the slot have it behind those that they had, and all others have what they had
 pub lists_pushed : (m n : KeyLists) (side : Side) (key : Key) (slot i : ℕ) → IsKeyLists m → IsPushed m n side key slot i
     → (s : Side) (q : Key) → lists_of n s q ≡ appended (same_side s side && same_key q key) slot (lists_of m s q)
 lists_pushed m n side key slot i v p s q =
@@ -184,11 +199,12 @@ lists_pushed m n side key slot i v p s q =
         lists_some n s q j (p.places q ∙ was) ∙ ap (λ xs. slots_at s xs j) p.items ∙ ap (side_slots s) (get_or-set_other m.lists.items i j _ no_slots apart)
         ∙ sym (lists_some m s q j was)
 
--- a fact for one outcome, by another
+-- a fact for an accepted outcome, by another
 pub on_ok_by : {T E P Q : Type 0} (r : Result T E) → (P → Q) → OnOk r P → OnOk r Q
 on_ok_by (Ok x) f p = f p
 on_ok_by (Err e) f p = p
 
+-- a fact for a refused outcome, by another
 pub on_err_by : {T E P Q : Type 0} (r : Result T E) → (P → Q) → OnErr r P → OnErr r Q
 on_err_by (Ok x) f p = p
 on_err_by (Err e) f p = f p

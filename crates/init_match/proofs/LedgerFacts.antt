@@ -1,4 +1,5 @@
--- What the list of accepted calls keeps besides.
+-- What the list of accepted calls keeps besides: each call's turn, and each key's slots. So the partner of a call is
+-- looked up in the other side's slots of its key, at the call's turn.
 use Rattle.std.proofs.Common.{◌≡◌, ℕ, ◌<◌, ◌≤◌, ◌&&◌, Some, None, List, [], ◌∷◌, ◌++◌, length, get_or, ap, sym, ◌∙◌, refl, arith}
 use Rattle.std.specs.List.{slice_get}
 use Rattle.std.proofs.lemmas.List.{length-map}
@@ -19,12 +20,15 @@ use Rattle.init_match.proofs.Placing.{partner_there, partner_none, slots_of-more
 abbrev pub AreSlots : KeyLists → List Call → Type 0
 AreSlots keys calls = (s : Side) (q : Key) → lists_of keys s q ≡ slots_of s q calls
 
+-- as many slots as a call finds of its own side and key is its turn
 turn_is : (keys : KeyLists) (calls : List Call) (c : Call) (own : List ℕ) → AreSlots keys calls → own ≡ lists_of keys c.side c.key → length own ≡ turn_of calls c
 turn_is keys calls c own are is = ap length (is ∙ are c.side c.key) ∙ length-map (of_key c.side c.key calls) (λ e. e.0)
 
+-- and there are no more of them than calls
 pub few_own : (keys : KeyLists) (calls : List Call) (c : Call) (own : List ℕ) → AreSlots keys calls → own ≡ lists_of keys c.side c.key → length own ≤ length calls
 few_own keys calls c own are is = let a = turn_is keys calls c own are is in let b = few_turns c.side c.key calls in omega arith
 
+-- where the other side has more slots of the key, the one at the call's turn is that of its partner
 pub found : (keys : KeyLists) (calls : List Call) (c : Call) (side : Side) (own others : List ℕ) (slot : ℕ) → AreSlots keys calls → side ≡ facing c.side → own ≡ lists_of keys c.side c.key
     → others ≡ lists_of keys side c.key → length own < length others → slot ≡ get_or others (length own) slot
     → (x : Call) × (slice_get calls slot ≡ Some x) × (partner_before calls c ≡ Some (slot, x))
@@ -33,6 +37,7 @@ found keys calls c side own others slot are is own_is others_is inside read =
     let o : others ≡ slots_of (facing c.side) c.key calls = others_is ∙ ap (λ s. lists_of keys s c.key) is ∙ are (facing c.side) c.key in
     partner_there calls c slot (ap (slice_get (slots_of (facing c.side) c.key calls)) (sym t) ∙ ap (λ xs. slice_get xs (length own)) (sym o) ∙ slice_get_read others (length others) (length own) slot refl inside read)
 
+-- where it hasn't, no partner is there yet
 pub not_found : (keys : KeyLists) (calls : List Call) (c : Call) (side : Side) (own others : List ℕ) → AreSlots keys calls → side ≡ facing c.side → own ≡ lists_of keys c.side c.key
     → others ≡ lists_of keys side c.key → length others ≤ length own → partner_before calls c ≡ None
 not_found keys calls c side own others are is own_is others_is past =
@@ -47,6 +52,7 @@ pub record IsGrown (l new : Inside) (c : Call) : Type 0 where
   pub keys : IsKeyLists new.keys
   pub slots : (s : Side) (q : Key) → lists_of new.keys s q ≡ appended (same_side s c.side && same_key q c.key) (length l.calls.items) (lists_of l.keys s q)
 
+-- a list of calls that has grown by a call keeps what it ought to keep
 pub grown : (l new : Inside) (c : Call) → IsLedger l → IsGrown l new c → IsLedger new
 grown l new c s g = record {
   turns = g.turns ∙ ap (λ ts. ts ++ length (lists_of l.keys c.side c.key) ∷ []) s.turns

@@ -1,4 +1,5 @@
--- Merges: the calls of a side and a key come in the order of their rank's list, and sums are the same.
+-- Merges: the calls of a side and a key come in the order of their rank's list, as one rank alone makes them; and a sum
+-- over all calls is the same in each merge. Both by induction over the merge.
 use Rattle.std.proofs.Common.{◌≡◌, ℕ, zero, suc, ◌+◌, ◌-◌, ◌≤◌, true, false, Some, None, Option, List, [], ◌∷◌, map, get_or, set, refl, ap, sym, subst, ◌∙◌, arith, inl, inr}
 use Rattle.std.specs.List.{slice_get, filter, enumerate_from, sum_by}
 use Rattle.std.specs.Option.{option_map}
@@ -17,13 +18,15 @@ use Rattle.init_match.proofs.Pairing.{own_parts}
 abbrev pub group : Side → Key → List Named → List Named
 group s q xs = filter (λ n. is_of s q n.call) xs
 
+-- a call of the side and key is the first of them
 group_here : (s : Side) (q : Key) (c : Named) (xs : List Named) → is_of s q c.call ≡ true → group s q (c ∷ xs) ≡ c ∷ group s q xs
 group_here s q c xs here = rw here refl
 
+-- another call is none of them
 group_other : (s : Side) (q : Key) (c : Named) (xs : List Named) → is_of s q c.call ≡ false → group s q (c ∷ xs) ≡ group s q xs
 group_other s q c xs other = rw other refl
 
--- what is left of the lists
+-- without the first call of a rank's list, each list is still its rank's own
 pub own_rest : (lists : List (List Named)) (rank : ℕ) (c : Named) (rest : List Named) → AreOwn lists → slice_get lists rank ≡ Some (c ∷ rest) → AreOwn (set lists rank rest)
 own_rest lists rank c rest own is k n d there =
     let inside = slice_get_within lists rank (c ∷ rest) is in
@@ -35,6 +38,7 @@ own_rest lists rank c rest own is k n d there =
       | inr other ↦ own k n d (ap (λ l. slice_get l n) (sym (get_or-set_other lists rank k rest [] other)) ∙ there)
     ]
 
+-- in a merge, the calls of a side and a key are those in the list of the rank that makes them, in that order
 pub merge_group : (lists : List (List Named)) (xs : List Named) (s : Side) (q : Key) → AreOwn lists → IsMerge lists xs → group s q xs ≡ group s q (get_or lists (owner s q) [])
 merge_group lists [] s q own empty = ap (group s q) (sym (empty (owner s q)))
 merge_group lists (c ∷ xs) s q own (rank, rest, is, more) =
@@ -57,11 +61,12 @@ merge_group lists (c ∷ xs) s q own (rank, rest, is, more) =
       ]
     ]
 
--- sums over all calls
+-- where nothing is left of the lists, the sum is 0
 none_left : (f : Named → ℕ) (lists : List (List Named)) → ((r : ℕ) → get_or lists r [] ≡ []) → sum_by (sum_by f) lists ≡ 0
 none_left f [] empty = refl
 none_left f (l ∷ lists) empty = sum_by-cons (sum_by f) l lists ∙ ap (λ m. sum_by f m + sum_by (sum_by f) lists) (empty 0) ∙ ap (λ n. 0 + n) (none_left f lists (λ r. empty (suc r)))
 
+-- a sum over a merge is the sum over the lists of their sums
 pub merge_sum : (f : Named → ℕ) (lists : List (List Named)) (xs : List Named) → IsMerge lists xs → sum_by f xs ≡ sum_by (sum_by f) lists
 merge_sum f lists [] empty = sym (none_left f lists empty)
 merge_sum f lists (c ∷ xs) (rank, rest, is, more) =
@@ -77,6 +82,7 @@ merge_sum f lists (c ∷ xs) (rank, rest, is, more) =
 abbrev named_from : ℕ → Side → Key → List Named → List (ℕ × Named)
 named_from n s q xs = filter (λ (e : ℕ × Named). is_of s q e.1.call) (enumerate_from n xs)
 
+-- the calls of a side and a key with their slots are the named ones, without their names
 slots_named : (n : ℕ) (s : Side) (q : Key) (xs : List Named)
     → filter (λ (e : ℕ × Call). is_of s q e.1) (enumerate_from n (map (λ c. c.call) xs)) ≡ map (λ (e : ℕ × Named). (e.0, e.1.call)) (named_from n s q xs)
 slots_named n s q [] = refl
@@ -87,6 +93,7 @@ slots_named n s q (c ∷ xs) =
       | inr other ↦ rw other rest
     ]
 
+-- without their slots they are the calls of that side and key in order
 group_named : (n : ℕ) (s : Side) (q : Key) (xs : List Named) → group s q xs ≡ map (λ (e : ℕ × Named). e.1) (named_from n s q xs)
 group_named n s q [] = refl
 group_named n s q (c ∷ xs) =
@@ -96,6 +103,7 @@ group_named n s q (c ∷ xs) =
       | inr other ↦ rw other rest
     ]
 
+-- numbered from n on, each stands in the list at its number less n
 named_there : (n : ℕ) (s : Side) (q : Key) (xs : List Named) (k : ℕ) (e : ℕ × Named) → slice_get (named_from n s q xs) k ≡ Some e → (n ≤ e.0) × (slice_get xs (e.0 - n) ≡ Some e.1)
 named_there n s q [] k e is = cc
 named_there n s q (c ∷ xs) k e is =
@@ -123,9 +131,11 @@ pub record IsNamed (xs : List Named) (n : Named) (e : ℕ × Call) : Type 0 wher
   pub there : slice_get xs e.0 ≡ Some n
   pub call : n.call ≡ e.1
 
+-- numbered from 0 on, each stands at its number
 named_is : (s : Side) (q : Key) (xs : List Named) (k : ℕ) (a : ℕ × Named) → slice_get (named_from 0 s q xs) k ≡ Some a → slice_get xs a.0 ≡ Some a.1
 named_is s q xs k a is = ap (slice_get xs) (let z : a.0 ≡ a.0 - 0 = omega arith in z) ∙ (named_there 0 s q xs k a is).1
 
+-- the k-th call of a side and a key has a name, by which it is the k-th named call of them
 pub slot_named : (s : Side) (q : Key) (xs : List Named) (k : ℕ) (e : ℕ × Call) → slice_get (of_key s q (map (λ c. c.call) xs)) k ≡ Some e
     → (n : Named) × (slice_get (group s q xs) k ≡ Some n) × IsNamed xs n e
 unfolding of_key
@@ -135,6 +145,7 @@ slot_named s q xs k e is =
     let in_group = ap (λ es. slice_get es k) (group_named 0 s q xs) ∙ slice_get-map (λ (e : ℕ × Named). e.1) (named_from 0 s q xs) k ∙ ap (option_map (λ (e : ℕ × Named). e.1)) f.1 in
     (f.0.1, in_group, record { there = ap (slice_get xs) (sym (ap (λ (p : ℕ × Call). p.0) f.2)) ∙ named_is s q xs k f.0 f.1; call = ap (λ (p : ℕ × Call). p.1) f.2 })
 
+-- and the k-th named call has a slot, in which it is the k-th call of them
 pub named_slot : (s : Side) (q : Key) (xs : List Named) (k : ℕ) (n : Named) → slice_get (group s q xs) k ≡ Some n
     → (e : ℕ × Call) × (slice_get (of_key s q (map (λ c. c.call) xs)) k ≡ Some e) × IsNamed xs n e
 unfolding of_key

@@ -1,4 +1,6 @@
--- Where one merge of the ranks' lists is accepted, each merge is, and the same calls are paired.
+-- Where one merge of the ranks' lists is accepted, each merge is, and the same calls are paired. What makes calls
+-- acceptable, whatever their order, is that none has a fault in its numbers, that the sizes of each pair agree, and
+-- that there is room for all: sums and pairs, which all merges share.
 use Rattle.std.proofs.Common.{◌≡◌, ℕ, ◌+◌, ◌≤◌, ◌==◌, nat_lt, Bool, true, false, cond, Some, None, Option, is_some, Ok, Err, Result, IsOk, is_ok, List, [], ◌∷◌, ◌++◌, length, map, refl, ap, sym, subst, ◌∙◌, arith, inl, inr, append_assoc}
 use Rattle.std.specs.List.{slice_get, sum_by}
 use Rattle.std.specs.Option.{option_map_or}
@@ -42,6 +44,7 @@ record IsTaken (w : WorldState) (c : Call) : Type 0 where
 answer_of : Option InitFault → Option InitFault → Bool → ℕ → ℕ → Result ℕ InitFault
 answer_of f g full sum slot = option_map_or Err f (option_map_or Err g (cond full (Err (WorldFull sum)) (Ok slot)))
 
+-- an answer that accepts comes of no fault, no other size and room
 taken_by : (f g : Option InitFault) (full : Bool) (sum slot : ℕ) → IsOk (answer_of f g full sum slot) → (f ≡ None) × (g ≡ None) × (full ≡ false)
 unfolding answer_of
 taken_by None None false sum slot ok = (refl, refl, refl)
@@ -49,20 +52,24 @@ taken_by None None true sum slot ok = absurd (false≢true ok)
 taken_by None (Some g) full sum slot ok = absurd (false≢true ok)
 taken_by (Some f) g full sum slot ok = absurd (false≢true ok)
 
+-- what a world answers, by its three tests
 answer_is : (w : WorldState) (c : Call) → init_answer w c ≡ answer_of (number_fault w.ranks c) (size_fault (completed_by w.calls c)) (nat_lt MAX_VOLUME (volume w.calls + total c)) (volume w.calls + total c) (length w.calls)
 unfolding answer_of
 answer_is w c = refl
 
+-- an accepted call passed the three tests
 taken : (w : WorldState) (c : Call) → IsOk (init_answer w c) → IsTaken w c
 taken w c ok =
     let h = taken_by (number_fault w.ranks c) (size_fault (completed_by w.calls c)) (nat_lt MAX_VOLUME (volume w.calls + total c)) (volume w.calls + total c) (length w.calls)
     (subst (λ a. IsOk a) (answer_is w c) ok) in
     record { number = h.0; size = h.1; room = ltb-false MAX_VOLUME (volume w.calls + total c) h.2 }
 
+-- where all three are passed, the slot is given
 gives : (f g : Option InitFault) (full : Bool) (sum slot : ℕ) → f ≡ None → g ≡ None → full ≡ false → answer_of f g full sum slot ≡ Ok slot
 unfolding answer_of
 gives f g full sum slot a b d = rw (a, b, d) refl
 
+-- a call that passes the three tests gets the next slot
 taken_answer : (w : WorldState) (c : Call) → IsTaken w c → init_answer w c ≡ Ok (length w.calls)
 taken_answer w c t =
     answer_is w c ∙ gives (number_fault w.ranks c) (size_fault (completed_by w.calls c)) (nat_lt MAX_VOLUME (volume w.calls + total c)) (volume w.calls + total c) (length w.calls)
@@ -71,7 +78,7 @@ taken_answer w c t =
 with_call : WorldState → Call → WorldState
 with_call w c = record w { calls = w.calls ++ c ∷ [] }
 
--- the sizes of a completed pair
+-- where a completed pair has no fault of sizes, its sizes are equal
 sizes_of : (o : Option Pair) → size_fault o ≡ None → (p : Pair) → o ≡ Some p → total p.send.1 ≡ total p.recv.1
 sizes_of None none p is = cc
 sizes_of (Some q) none p is =
@@ -83,6 +90,7 @@ sizes_of (Some q) none p is =
     bad : ◌≡◌ {A = Option InitFault} (Some (SizeMismatch (total q.send.1) (total q.recv.1))) None → total p.send.1 ≡ total p.recv.1
     bad e = cc
 
+-- after an accepted call the sizes of each pair still agree
 sizes_more : (w : WorldState) (c : Call) → SizesAgree w.calls → IsTaken w c → SizesAgree (w.calls ++ c ∷ [])
 sizes_more w c sizes t p h =
     elim (paired_cases w.calls c p h) [
@@ -90,6 +98,7 @@ sizes_more w c sizes t p h =
       | inr new ↦ sizes_of (completed_by w.calls c) t.size p new
     ]
 
+-- where the sizes of each pair of all calls agree, no call among them completes a pair of other sizes
 no_size_fault : (calls rest : List Call) (c : Call) → SizesAgree (calls ++ c ∷ rest) → size_fault (completed_by calls c) ≡ None
 no_size_fault calls rest c sizes = by_pair (completed_by calls c) refl
   where
@@ -99,11 +108,12 @@ no_size_fault calls rest c sizes = by_pair (completed_by calls c) refl
         let e = sizes p (subst (λ xs. ArePaired xs p) (append_assoc calls (c ∷ []) rest) (paired_stays (calls ++ c ∷ []) rest p (completed_paired calls c p is))) in
         rw (eq-eqb (total p.send.1) (total p.recv.1) e) refl
 
+-- what counts 0 as a fault is none
 fault_none : (o : Option InitFault) → ◌≡◌ {A = ℕ} (cond (is_some o) 1 0) 0 → o ≡ None
 fault_none None e = refl
 fault_none (Some f) e = absurd (omega arith)
 
--- accepted calls are good, and good ones are accepted
+-- accepted calls are good behind those before
 accepted_good : (w : WorldState) (rest : List Call) → SizesAgree w.calls → volume w.calls ≤ MAX_VOLUME → AreAccepted w rest → IsGood w.ranks w.calls rest
 accepted_good w [] sizes room a = record {
   fits = refl;
@@ -124,6 +134,7 @@ accepted_good w (c ∷ rest) sizes room (ok, more) =
       room = omega arith;
     }
 
+-- and good ones are accepted
 good_accepted : (w : WorldState) (rest : List Call) → IsGood w.ranks w.calls rest → AreAccepted w rest
 good_accepted w [] g = tt
 good_accepted w (c ∷ rest) g =
@@ -150,9 +161,11 @@ good_accepted w (c ∷ rest) g =
 abbrev SameGroups : List Named → List Named → Type 0
 SameGroups xs ys = (s : Side) (q : Key) → group s q xs ≡ group s q ys
 
+-- the k-th call of a side and a key is the same in both
 moved : (xs ys : List Named) (s : Side) (q : Key) (k : ℕ) (n : Named) → SameGroups xs ys → slice_get (group s q xs) k ≡ Some n → slice_get (group s q ys) k ≡ Some n
 moved xs ys s q k n same is = ap (λ g. slice_get g k) (sym (same s q)) ∙ is
 
+-- so where the sizes of each pair agree in the one, they do in the other
 same_sizes : (xs ys : List Named) → SameGroups ys xs → SizesAgree (map (λ c. c.call) xs) → SizesAgree (map (λ c. c.call) ys)
 same_sizes xs ys same sizes p h =
     let s = slot_named SendSide h.key ys h.turn p.send h.send in
@@ -165,6 +178,7 @@ same_sizes xs ys same sizes p h =
 the_same : {X : Type 0} (o : Option X) (a b : X) → o ≡ Some a → o ≡ Some b → a ≡ b
 the_same o a b is_a is_b = cc
 
+-- and the same calls are paired
 same_pairs : (xs ys : List Named) → SameGroups xs ys → (a b : Named) → AreMatched xs a b → AreMatched ys a b
 same_pairs xs ys same a b m =
     let h = m.paired in
@@ -179,15 +193,17 @@ same_pairs xs ys same a b m =
       recv = r'.2.there ∙ ap Some (the_same (slice_get xs m.pair.recv.0) r.0 b r.2.there m.recv);
     }
 
--- sums over the calls, by their names
+-- a sum over the calls is that over the named calls
 sum_named : (f : Call → ℕ) (xs : List Named) → sum_by f (map (λ c. c.call) xs) ≡ sum_by (λ (n : Named). f n.call) xs
 sum_named f [] = refl
 sum_named f (c ∷ xs) = sum_by-cons f c.call (map (λ c. c.call) xs) ∙ ap (λ n. f c.call + n) (sum_named f xs) ∙ sym (sum_by-cons (λ (n : Named). f n.call) c xs)
 
+-- two merges of the same lists have the same sum
 same_sum : (f : Call → ℕ) (lists : List (List Named)) (xs ys : List Named) → IsMerge lists xs → IsMerge lists ys → sum_by f (map (λ c. c.call) xs) ≡ sum_by f (map (λ c. c.call) ys)
 same_sum f lists xs ys a b =
     sum_named f xs ∙ merge_sum (λ n. f n.call) lists xs a ∙ sym (sum_named f ys ∙ merge_sum (λ n. f n.call) lists ys b)
 
+-- without calls there are no pairs
 no_pairs : SizesAgree []
 unfolding of_key
 no_pairs p h = none h.send
@@ -195,6 +211,7 @@ no_pairs p h = none h.send
     none : ◌≡◌ {A = Option (ℕ × Call)} None (Some p.send) → total p.send.1 ≡ total p.recv.1
     none is = cc
 
+-- where one merge is accepted, each merge of the same lists is, with the same calls paired
 pub merges_agree : DoMergesAgree
 merges_agree w lists xs ys first own a b accepted =
     let good = accepted_good w (map (λ c. c.call) xs) (subst SizesAgree (sym first) no_pairs) (let z : volume w.calls ≡ 0 = ap volume first in omega arith) accepted in

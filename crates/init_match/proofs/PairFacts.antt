@@ -1,4 +1,5 @@
--- The pairs of a list of calls, and what holds of a world.
+-- The pairs of a list of calls, and what holds of a world: one more call adds to the pairs the one that it completes,
+-- if any, and its bytes to the sum.
 use Rattle.std.proofs.Common.{◌≡◌, ℕ, zero, suc, ◌+◌, Bool, true, nat_le, ◌≤◌, Some, None, Option, Ok, Err, Result, List, [], ◌∷◌, ◌++◌, length, map, refl, ap, sym, subst, ◌∙◌, arith, length-append, append_assoc}
 use Rattle.std.specs.List.{slice_get}
 use Rattle.std.specs.Option.{option_map, option_map_or, option_to_list}
@@ -19,11 +20,12 @@ use Rattle.init_match.specs.World.{WorldState, completed_answer, is_within, matc
 use Rattle.init_match.specs.Sound.{IsFit, IsWorld}
 use Rattle.init_match.proofs.Placing.{stands_at}
 
+-- a list with nothing behind it is itself
 pub append_none : {X : Type 0} (xs : List X) → xs ≡ xs ++ []
 append_none [] = refl
 append_none (x ∷ xs) = ap (λ ys. x ∷ ys) (append_none xs)
 
--- one call more
+-- one call more behind the others adds the pair that it completes
 after_more : (before calls : List Call) (c : Call) → pairs_after before (calls ++ c ∷ []) ≡ pairs_after before calls ++ option_to_list (completed_by (before ++ calls) c)
 after_more before [] c =
     sym (append_none (option_to_list (completed_by before c))) ∙ ap (λ xs. option_to_list (completed_by xs c)) (append_none before)
@@ -32,15 +34,17 @@ after_more before (d ∷ calls) c =
     (after_more (before ++ d ∷ []) calls c ∙ ap (λ xs. pairs_after (before ++ d ∷ []) calls ++ option_to_list (completed_by xs c)) (append_assoc before (d ∷ []) calls))
     ∙ sym (append_assoc (option_to_list (completed_by before d)) (pairs_after (before ++ d ∷ []) calls) (option_to_list (completed_by (before ++ d ∷ calls) c)))
 
+-- the pairs with one call more are those before, and the one that it completes
 pub pairs_more : (calls : List Call) (c : Call) → pairs_of (calls ++ c ∷ []) ≡ pairs_of calls ++ option_to_list (completed_by calls c)
 unfolding pairs_of
 pairs_more calls c = after_more [] calls c
 
--- there are no more pairs than calls
+-- an option has at most one element
 one_at_most : {X : Type 0} (o : Option X) → length (option_to_list o) ≤ 1
 one_at_most None = omega arith
 one_at_most (Some x) = omega arith
 
+-- each call adds at most one pair
 after_few : (before calls : List Call) → length (pairs_after before calls) ≤ length calls
 after_few before [] = omega arith
 after_few before (c ∷ calls) =
@@ -49,15 +53,16 @@ after_few before (c ∷ calls) =
     let sum = length-append (option_to_list (completed_by before c)) (pairs_after (before ++ c ∷ []) calls) in
     omega arith
 
+-- there are no more pairs than calls
 pub pairs_few : (calls : List Call) → length (pairs_of calls) ≤ length calls
 unfolding pairs_of
 pairs_few calls = after_few [] calls
 
--- a partner is one of the calls
+-- a call's partner is one of the accepted calls, and keeps the limits
 pub partner_fits : (w : Inside) (c other : Call) (slot : ℕ) → IsWorld w → partner_before w.ledger c ≡ Some (slot, other) → IsFit other
 partner_fits w c other slot s is = s.fit slot other (stands_at (facing c.side) c.key w.ledger (turn_of w.ledger c) (slot, other) is).0
 
--- the call behind the others, or one of them
+-- where the calls keep the limits and one more does, all do
 fit_more : (calls : List Call) (c : Call) → ((i : ℕ) (d : Call) → slice_get calls i ≡ Some d → IsFit d) → IsFit c → (i : ℕ) (d : Call) → slice_get (calls ++ c ∷ []) i ≡ Some d → IsFit d
 fit_more [] c fit here zero d is = let same : c ≡ d = cc in subst IsFit same here
 fit_more [] c fit here (suc i) d is = cc
@@ -77,6 +82,7 @@ map-option : {X Y : Type 0} (f : X → Y) (o : Option X) → option_to_list (opt
 map-option f None = refl
 map-option f (Some x) = refl
 
+-- a world that has grown by a call that keeps the limits is sound
 pub world_grown : (w new : Inside) (c : Call) → IsWorld w → IsFit c → IsGrownWorld w new c → IsWorld new
 world_grown w new c s f g =
     let some : 1 ≤ total c = one-le-mul f.parts.0 f.bytes.0 in
@@ -105,17 +111,18 @@ completed_is w c o is = by_fault (size_fault (completed_by w.calls c)) (option_m
     by_fault None p e = cc
     by_fault (Some x) p e = cc
 
--- none of a kind
+-- an option that is nothing else is none
 pub none_is : {X : Type 0} (o : Option X) → ((x : X) → o ≡ Some x → ⊥) → o ≡ None
 none_is None not = refl
 none_is (Some x) not = absurd (not x refl)
 
--- a number within its bounds
+-- a number that passes the test of its bounds is within them
 pub within : (low high n : ℕ) (test : Bool) → test ≡ is_within low high n → test ≡ true → IsWithin low high n
 within low high n test is holds =
     let h = and_parts (nat_le low n) (nat_le n high) (sym is ∙ holds) in
     (leb-true low n h.0, leb-true n high h.1)
 
+-- a new world of a grain and a depth within their limits is sound
 pub world_first : (w : Inside) → IsWithin 1 MAX_GRAIN w.grain → IsWithin 1 MAX_DEPTH w.depth → w.sum ≡ 0 → w.ledger ≡ [] → w.pairs.items ≡ [] → IsWorld w
 unfolding pairs_of
 world_first w grain depth sum calls pairs = record {

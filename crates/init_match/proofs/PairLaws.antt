@@ -1,4 +1,5 @@
--- The list of pairs has all pairs, in the order of their later calls.
+-- The list of pairs has all pairs, in the order of their later calls: by induction over the calls, each of which
+-- completes at most one pair, with itself as the later call.
 use Rattle.std.proofs.Common.{◌≡◌, ◌⊎◌, ℕ, zero, suc, ◌+◌, ◌<◌, ◌≤◌, Some, None, Option, List, [], ◌∷◌, ◌++◌, length, refl, ap, sym, subst, ◌∙◌, arith, inl, inr, append_assoc, length-append}
 use Rattle.std.specs.List.{slice_get}
 use Rattle.std.specs.Option.{option_map, option_to_list}
@@ -12,21 +13,24 @@ use Rattle.init_match.proofs.Placing.{stands_at}
 use Rattle.init_match.proofs.PairFacts.{append_none}
 use Rattle.init_match.proofs.Pairing.{paired_stays, completed_paired, paired_cases}
 
--- what an optional first element leaves
+-- an element of a list behind an option is the option's, or one of the list
 first_or_later : {X : Type 0} (o : Option X) (xs : List X) (n : ℕ) (x : X) → slice_get (option_to_list o ++ xs) n ≡ Some x
     → ((o ≡ Some x) × (n ≡ 0)) ⊎ ((m : ℕ) × (slice_get xs m ≡ Some x) × (n ≡ length (option_to_list o) + m))
 first_or_later None xs n x is = inr (n, is, (let z : n ≡ 0 + n = omega arith in z))
 first_or_later (Some y) xs zero x is = inl (is, refl)
 first_or_later (Some y) xs (suc n) x is = inr (n, is, (let z : suc n ≡ 1 + n = omega arith in z))
 
+-- an element of the list is there
 later_get : {X : Type 0} (o : Option X) (xs : List X) (m : ℕ) (x : X) → slice_get xs m ≡ Some x → (n : ℕ) × (slice_get (option_to_list o ++ xs) n ≡ Some x)
 later_get None xs m x is = (m, is)
 later_get (Some y) xs m x is = (suc m, is)
 
+-- and so is the option's
 first_get : {X : Type 0} (o : Option X) (xs : List X) (x : X) → o ≡ Some x → (n : ℕ) × (slice_get (option_to_list o ++ xs) n ≡ Some x)
 first_get None xs x is = cc
 first_get (Some y) xs x is = (0, is)
 
+-- each pair is one of the calls before, or is completed later
 all_after : (before rest : List Call) (p : Pair) → ArePaired (before ++ rest) p → ArePaired before p ⊎ ((n : ℕ) × (slice_get (pairs_after before rest) n ≡ Some p))
 all_after before [] p h = inl (subst (λ xs. ArePaired xs p) (sym (append_none before)) h)
 all_after before (c ∷ rest) p h =
@@ -38,6 +42,7 @@ all_after before (c ∷ rest) p h =
       ]
     ]
 
+-- each pair that is completed is one of all the calls
 only_after : (before rest : List Call) (n : ℕ) (p : Pair) → slice_get (pairs_after before rest) n ≡ Some p → ArePaired (before ++ rest) p
 only_after before [] n p is = cc
 only_after before (c ∷ rest) n p is =
@@ -46,15 +51,17 @@ only_after before (c ∷ rest) n p is =
       | inr later ↦ subst (λ xs. ArePaired xs p) (append_assoc before (c ∷ []) rest) (only_after (before ++ c ∷ []) rest later.0 p later.1)
     ]
 
--- the later call of a pair is the one that completes it
+-- an option that has a value after a function had one before
 some_pair : {A B : Type 0} (f : A → B) (o : Option A) (b : B) → option_map f o ≡ Some b → (a : A) × (o ≡ Some a) × (f a ≡ b)
 some_pair f None b is = cc
 some_pair f (Some a) b is = (a, refl, cc)
 
+-- where the partner stands before a call, the call is the later one of their pair
 by_side : (side : Side) (own other : ℕ × Call) → other.0 < own.0 → later_slot (pair_with side own other) ≡ own.0
 by_side SendSide own other less = omega arith
 by_side RecvSide own other less = omega arith
 
+-- the later call of a completed pair is the one that completes it
 completed_later : (before : List Call) (c : Call) (p : Pair) → completed_by before c ≡ Some p → later_slot p ≡ length before
 completed_later before c p is =
     let found = some_pair (pair_with c.side (length before, c)) (partner_before before c) p is in
@@ -62,6 +69,7 @@ completed_later before c p is =
     let less = slice_get_within before found.0.0 found.0.1 there.0 in
     ap later_slot (sym found.2) ∙ by_side c.side (length before, c) found.0 less
 
+-- a pair that is completed later has its later call behind the calls before
 low_after : (before rest : List Call) (n : ℕ) (p : Pair) → slice_get (pairs_after before rest) n ≡ Some p → length before ≤ later_slot p
 low_after before [] n p is = cc
 low_after before (c ∷ rest) n p is =
@@ -72,6 +80,7 @@ low_after before (c ∷ rest) n p is =
           let size = length-append before (c ∷ []) in omega arith
     ]
 
+-- pairs stand in the order of their later calls
 ordered_after : (before rest : List Call) (m n : ℕ) (p q : Pair) → m < n → slice_get (pairs_after before rest) m ≡ Some p → slice_get (pairs_after before rest) n ≡ Some q
     → later_slot p < later_slot q
 ordered_after before [] m n p q less is_p is_q = cc
@@ -89,6 +98,7 @@ ordered_after before (c ∷ rest) m n p q less is_p is_q =
       ]
     ]
 
+-- without calls there is no pair
 nothing : (p : Pair) → ArePaired [] p → ⊥
 unfolding of_key
 nothing p h = none h.send
@@ -96,6 +106,7 @@ nothing p h = none h.send
     none : ◌≡◌ {A = Option (ℕ × Call)} None (Some p.send) → ⊥
     none is = cc
 
+-- the list of pairs has all pairs and nothing else, in the order of their later calls
 pub the_pairs : AreThePairs
 unfolding pairs_of
 the_pairs calls = record {

@@ -1,4 +1,5 @@
--- The partner of a slot is the other slot of its pair.
+-- The partner of a slot is the other slot of its pair. A slot has one turn among those of its side and key, since their
+-- slots ascend, and a pair is two of one turn.
 use Rattle.std.proofs.Common.{◌≡◌, ◌⊎◌, ℕ, zero, suc, ◌+◌, ◌<◌, Some, None, Option, List, [], ◌∷◌, ◌++◌, length, take, refl, ap, sym, subst, ◌∙◌, arith, inl, inr, append_assoc}
 use Rattle.std.specs.List.{slice_get, filter, enumerate_from}
 use Rattle.std.specs.Option.{option_map}
@@ -50,6 +51,7 @@ ascend s q n (x ∷ xs) a b e f less is_e is_f =
         omega arith
     first (suc a) (suc b) lt is_e is_f rest = rest a b (omega arith) is_e is_f
 
+-- so a call has one turn
 one_turn : (s : Side) (q : Key) (calls : List Call) (a b : ℕ) (e : ℕ × Call) → slice_get (of_key s q calls) a ≡ Some e → slice_get (of_key s q calls) b ≡ Some e → a ≡ b
 unfolding of_key
 one_turn s q calls a b e is_a is_b =
@@ -61,15 +63,18 @@ one_turn s q calls a b e is_a is_b =
       ]
     ]
 
+-- an option that has a value after a function had one before
 some_of : {A B : Type 0} (f : A → B) (o : Option A) (b : B) → option_map f o ≡ Some b → (a : A) × (o ≡ Some a) × (f a ≡ b)
 some_of f None b is = cc
 some_of f (Some a) b is = (a, refl, cc)
 
+-- a call and its partner are the two of their pair, by the call's side
 sides : (side : Side) (own other : ℕ × Call) (i j : ℕ) → own.0 ≡ i → other.0 ≡ j
     → (((pair_with side own other).send.0 ≡ i) × ((pair_with side own other).recv.0 ≡ j)) ⊎ (((pair_with side own other).recv.0 ≡ i) × ((pair_with side own other).send.0 ≡ j))
 sides SendSide own other i j a b = inl (a, b)
 sides RecvSide own other i j a b = inr (a, b)
 
+-- the partner of a slot is the other slot of a pair
 partners : (calls : List Call) (i j : ℕ) → partner_of calls i ≡ Some j → ArePartners calls i j
 partners calls i j is = by_call (slice_get calls i) refl
   where
@@ -100,6 +105,7 @@ turn_partner side key calls own other k is_own is_other =
     (subst (λ q. slice_get (of_key (facing side) q calls) (turn_of (take own.0 calls) c) ≡ Some other) parts.1 (ap (slice_get (of_key (facing side) key calls)) turn ∙ is_other)) in
     partner_at calls own.0 c there.0 ∙ slice_get-map (λ (e : ℕ × Call). e.0) (of_key (facing c.side) c.key calls) (turn_of (take own.0 calls) c) ∙ ap (option_map (λ (e : ℕ × Call). e.0)) found
 
+-- and the other slot of a pair is the partner
 partner_back : (calls : List Call) (i j : ℕ) → ArePartners calls i j → partner_of calls i ≡ Some j
 partner_back calls i j h =
     let p = h.paired in
@@ -108,5 +114,6 @@ partner_back calls i j h =
       | inr s ↦ ap (partner_of calls) (sym s.0) ∙ turn_partner RecvSide p.key calls h.pair.recv h.pair.send p.turn p.recv p.send ∙ ap Some s.1
     ]
 
+-- the partner of a slot is the other slot of the pair that it is in
 pub the_partner : IsThePartner
 the_partner calls slot other = (partners calls slot other, partner_back calls slot other)

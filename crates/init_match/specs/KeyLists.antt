@@ -12,7 +12,10 @@ use Rattle.init_match.specs.Slots.{Slots, no_slots, side_slots}
 
 -- the order of keys
 abbrev pub key_cmp : Key → Key → Ordering
-key_cmp a b = ordering_then (nat_cmp a.comm b.comm) (ordering_then (nat_cmp a.from b.from) (ordering_then (nat_cmp a.to b.to) (nat_cmp a.tag b.tag)))
+key_cmp a b =
+    ordering_then (nat_cmp a.comm b.comm) (
+    ordering_then (nat_cmp a.from b.from) (
+    ordering_then (nat_cmp a.to b.to) (nat_cmp a.tag b.tag)))
 
 -- which list is that of a key
 abbrev pub place_of : KeyLists → Key → Option ℕ

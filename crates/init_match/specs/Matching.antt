@@ -47,7 +47,9 @@ pairs_of calls = pairs_after [] calls
 -- the other slot of the pair that a slot is in
 unfoldable pub partner_of : List Call → ℕ → Option ℕ
 partner_of calls slot =
-    option_map (λ p. p.0) (option_and_then (λ c. slice_get (of_key (facing c.side) c.key calls) (turn_of (take slot calls) c)) (slice_get calls slot))
+    option_map (λ p. p.0) (
+    option_and_then (λ c. slice_get (of_key (facing c.side) c.key calls) (turn_of (take slot calls) c))
+    (slice_get calls slot))
 
 -- the slot of the later call of a pair
 abbrev pub later_slot : Pair → ℕ
@@ -57,7 +59,8 @@ later_slot p = max p.send.0 p.recv.0
 pub record ArePairsOf (calls : List Call) (pairs : List Pair) : Type 0 where
   pub all : (p : Pair) → ArePaired calls p → (n : ℕ) × (slice_get pairs n ≡ Some p)
   pub only : (n : ℕ) (p : Pair) → slice_get pairs n ≡ Some p → ArePaired calls p
-  pub ordered : (m n : ℕ) (p q : Pair) → m < n → slice_get pairs m ≡ Some p → slice_get pairs n ≡ Some q → later_slot p < later_slot q
+  pub ordered : (m n : ℕ) (p q : Pair) → m < n → slice_get pairs m ≡ Some p → slice_get pairs n ≡ Some q
+      → later_slot p < later_slot q
 
 -- the list of pairs is that
 abbrev pub AreThePairs : Type 0
@@ -71,4 +74,5 @@ pub record ArePartners (calls : List Call) (slot other : ℕ) : Type 0 where
 
 -- the partner of a slot is the other slot of the pair that it is in
 abbrev pub IsThePartner : Type 0
-IsThePartner = (calls : List Call) (slot other : ℕ) → (partner_of calls slot ≡ Some other) ↔ ArePartners calls slot other
+IsThePartner =
+    (calls : List Call) (slot other : ℕ) → (partner_of calls slot ≡ Some other) ↔ ArePartners calls slot other

@@ -19,13 +19,16 @@ owner RecvSide key = key.to
 
 -- each rank's list has only sends from that rank and receives to that rank
 abbrev pub AreOwn : List (List Named) → Type 0
-AreOwn lists = (rank n : ℕ) (c : Named) → slice_get (slice_index_or lists rank []) n ≡ Some c → owner c.call.side c.call.key ≡ rank
+AreOwn lists =
+    (rank n : ℕ) (c : Named) → slice_get (slice_index_or lists rank []) n ≡ Some c
+    → owner c.call.side c.call.key ≡ rank
 
 -- a merge takes the first call of some rank's list, and goes on with what is left, until nothing is
 abbrev pub IsMerge : List (List Named) → List Named → Type 0
 IsMerge lists [] = (rank : ℕ) → slice_index_or lists rank [] ≡ []
 IsMerge lists (c ∷ calls) =
-    (rank : ℕ) × (rest : List Named) × (slice_get lists rank ≡ Some (c ∷ rest)) × IsMerge (slice_set lists rank rest) calls
+    (rank : ℕ) × (rest : List Named) × (slice_get lists rank ≡ Some (c ∷ rest))
+    × IsMerge (slice_set lists rank rest) calls
 
 -- each call is accepted in its turn
 abbrev pub AreAccepted : WorldState → List Call → Type 0
@@ -46,5 +49,6 @@ pub record MergesAgree (w : WorldState) (calls others : List Named) : Type 0 whe
 
 abbrev pub DoMergesAgree : Type 0
 DoMergesAgree =
-    (w : WorldState) (lists : List (List Named)) (calls others : List Named) → w.calls ≡ [] → AreOwn lists → IsMerge lists calls → IsMerge lists others
+    (w : WorldState) (lists : List (List Named)) (calls others : List Named)
+    → w.calls ≡ [] → AreOwn lists → IsMerge lists calls → IsMerge lists others
     → AreAccepted w (map (λ c. c.call) calls) → MergesAgree w calls others

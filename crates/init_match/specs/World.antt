@@ -2,8 +2,8 @@
 use Rattle.std.specs.Prelude.{ℕ, ◌+◌, ◌==◌, ◌&&◌, Bool, not, nat_lt, nat_le, if◌then◌else◌, Option, Some, None, Result, Ok, Err, List, [], ◌∷◌, ◌++◌, length, map, option_map, sum_by}
 use Rattle.std.specs.Option.{option_map_or}
 use Rattle.part_geometry.specs.Shape.{Shape}
-use Rattle.part_geometry.specs.declared.TheConstants.{MAX_PARTS, MAX_PART_BYTES, MAX_TOTAL, MAX_GRAIN, MAX_DEPTH}
-use Rattle.init_match.specs.declared.TheConstants.{MAX_RANKS, MAX_TAG, MAX_COMM, MAX_VOLUME}
+use Rattle.part_geometry.specs.declared.TheConstants.{MAX_PARTS, MAX_PART_BYTES, MAX_TOTAL, MAX_GRAIN, MAX_DEPTH, MAX_RANKS}
+use Rattle.init_match.specs.declared.TheConstants.{MAX_TAG, MAX_COMM, MAX_VOLUME}
 use Rattle.init_match.specs.declared.answers.InitFault.{InitFault}
 use Rattle.init_match.specs.declared.answers.InitFault.TheVariants.{BadRank, BadTag, BadComm, BadParts, BadBytes, TooLong, SizeMismatch, WorldFull}
 use Rattle.init_match.specs.declared.answers.WorldFault.{WorldFault}
@@ -66,7 +66,9 @@ number_answer ranks c = option_map_or Err (number_fault ranks c) (Ok tt)
 -- both sides of a pair have the same number of bytes in all
 abbrev pub size_fault : Option Pair → Option InitFault
 size_fault None = None
-size_fault (Some p) = if total p.send.1 == total p.recv.1 then None else Some (SizeMismatch (total p.send.1) (total p.recv.1))
+size_fault (Some p) =
+    if total p.send.1 == total p.recv.1 then None
+    else Some (SizeMismatch (total p.send.1) (total p.recv.1))
 
 -- the pairs with their geometries
 abbrev pub shape_of : ℕ → ℕ → Call → Call → Shape
@@ -80,14 +82,17 @@ shape_of grain depth send recv = record {
 }
 
 abbrev pub matched_as : ℕ → ℕ → Pair → Matched
-matched_as grain depth p = record { send_slot = p.send.0; recv_slot = p.recv.0; geometry = shape_of grain depth p.send.1 p.recv.1 }
+matched_as grain depth p =
+    record { send_slot = p.send.0; recv_slot = p.recv.0; geometry = shape_of grain depth p.send.1 p.recv.1 }
 
 abbrev pub matched_pairs : WorldState → List Matched
 matched_pairs w = map (matched_as w.grain w.depth) (pairs_of w.calls)
 
 -- the pair that a call completes, unless the sizes differ
 abbrev pub completed_answer : WorldState → Call → Result (Option Matched) InitFault
-completed_answer w c = option_map_or Err (size_fault (completed_by w.calls c)) (Ok (option_map (matched_as w.grain w.depth) (completed_by w.calls c)))
+completed_answer w c =
+    option_map_or Err (size_fault (completed_by w.calls c))
+    (Ok (option_map (matched_as w.grain w.depth) (completed_by w.calls c)))
 
 -- the bytes of all accepted calls
 abbrev pub volume : List Call → ℕ
@@ -98,7 +103,8 @@ abbrev pub init_answer : WorldState → Call → Result ℕ InitFault
 init_answer w c =
     option_map_or Err (number_fault w.ranks c) (
     option_map_or Err (size_fault (completed_by w.calls c)) (
-    if nat_lt MAX_VOLUME (volume w.calls + total c) then Err (WorldFull (volume w.calls + total c)) else Ok (length w.calls)))
+    if nat_lt MAX_VOLUME (volume w.calls + total c) then Err (WorldFull (volume w.calls + total c))
+    else Ok (length w.calls)))
 
 -- an accepted call stands behind those before; a refused one changes nothing
 abbrev pub after_init : WorldState → Call → Result ℕ InitFault → WorldState

@@ -12,9 +12,6 @@ pub use answers::{InitFault, Matched, WorldFault};
 pub use laws::match_laws;
 pub use world::World;
 
-/// The most ranks of a world.
-pub const MAX_RANKS: u32 = 64;
-
 /// The greatest tag.
 pub const MAX_TAG: u32 = 32_767;
 

@@ -7,12 +7,12 @@ ghost use Rattle.init_match.specs.Calls.{total};
 ghost use Rattle.init_match.specs.Sound.{IsFit};
 ghost use Rattle.init_match.specs.World.{shape_of};
 
+use crate::MAX_VOLUME;
 use crate::answers::{InitFault, Matched, WorldFault};
 use crate::keys::Call;
 use crate::ledger::Ledger;
 use crate::numbers::{check_numbers, is_within};
-use crate::{MAX_RANKS, MAX_VOLUME};
-use part_geometry::{Geometry, MAX_DEPTH, MAX_GRAIN, Side};
+use part_geometry::{Geometry, MAX_DEPTH, MAX_GRAIN, MAX_RANKS, Side};
 use std::alloc::Global;
 use std::marker::Model;
 
@@ -47,7 +47,9 @@ fn geometry_of(grain: u32, depth: u32, send: Call, recv: Call) -> Result<Geometr
     requires depth { IsWithin 1 MAX_DEPTH depth }
     requires send { IsFit send }
     requires recv { IsFit recv }
-    ensures { result ≡ (if total send == total recv then Ok (shape_of grain depth send recv) else Err (InitFault.SizeMismatch (total send) (total recv))) }
+    ensures { result ≡ (if total send == total recv
+        then Ok (shape_of grain depth send recv)
+        else Err (InitFault.SizeMismatch (total send) (total recv))) }
 {
     let send_total = send.parts * send.bytes;
     let recv_total = recv.parts * recv.bytes;
@@ -99,7 +101,8 @@ impl World {
         parts: u32,
         bytes: u32,
     ) -> Result<u32, InitFault>
-        ensures answer { result ≢ Err InitFault.NoMemory → result ≡ init_answer self.old (send_call from to tag comm parts bytes) }
+        ensures answer { result ≢ Err InitFault.NoMemory
+            → result ≡ init_answer self.old (send_call from to tag comm parts bytes) }
         ensures world { self.new ≡ after_init self.old (send_call from to tag comm parts bytes) result }
     {
         self.init(Call::new(Side::SendSide, from, to, tag, comm, parts, bytes))
@@ -116,7 +119,8 @@ impl World {
         parts: u32,
         bytes: u32,
     ) -> Result<u32, InitFault>
-        ensures answer { result ≢ Err InitFault.NoMemory → result ≡ init_answer self.old (recv_call from to tag comm parts bytes) }
+        ensures answer { result ≢ Err InitFault.NoMemory
+            → result ≡ init_answer self.old (recv_call from to tag comm parts bytes) }
         ensures world { self.new ≡ after_init self.old (recv_call from to tag comm parts bytes) result }
     {
         self.init(Call::new(Side::RecvSide, from, to, tag, comm, parts, bytes))

@@ -15,6 +15,3 @@ pub use script::{Limits, Script, parse_script};
 
 /// The most bytes of a script.
 pub const MAX_SCRIPT_BYTES: usize = 1_048_576;
-
-/// The most ranks of a script's world.
-pub const MAX_RANKS: u32 = 64;

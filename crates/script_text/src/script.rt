@@ -6,13 +6,12 @@ ghost use Rattle.script_text.specs.Lines.{texts, sentences_from};
 ghost use Rattle.script_text.specs.Script.{is_world, within_limits, world_of, is_end, contents_of, script_of, IsFaultOf};
 ghost use Rattle.script_text.specs.Reading.{body_of, whole_of, Begins, Goes, IsFault, GoesLine, IsLineFault};
 
-use crate::MAX_RANKS;
 use crate::call::Call;
 use crate::fault::ScriptFault;
 use crate::lines::{is_skipped, split, without_return, words};
 use crate::reading::call;
 use crate::words::number;
-use part_geometry::{MAX_DEPTH, MAX_GRAIN};
+use part_geometry::{MAX_DEPTH, MAX_GRAIN, MAX_RANKS};
 use std::alloc::Global;
 use std::marker::Model;
 
