@@ -1,4 +1,5 @@
--- The buffers of a partition's cells, filled one after another.
+-- The buffers of a partition's cells, filled one after another: those of the cells so far have their parts of the
+-- bytes, and the others their lengths still.
 use Rattle.std.proofs.Common.{◌≡◌, ℕ, ◌+◌, ◌-◌, ◌%◌, ◌<◌, ◌≤◌, List, length, map, Option, Some, refl, sym, ap, ◌∙◌, subst, arith, inl, inr, length-set}
 use Rattle.std.specs.Prelude.{slice_set}
 use Rattle.std.proofs.lemmas.Bool.{cases_eq}
@@ -18,12 +19,18 @@ use Rattle.part_send.proofs.Slots.{at_in, in_at, set_here, set_else, every_at, e
 
 -- the buffers of cells from `first` on are out, each with its cell's length; those of the cells before c are filled
 pub record AreSoFar (g : Shape) (k first c n : ℕ) (b : List ℕ) (out : List (Option Buf)) : Type 0 where
+  -- the buffers
   pub bufs : List Buf
+  -- each slot that is out has one
   pub is : out ≡ map Some bufs
+  -- there are n
   pub count : length bufs ≡ n
+  -- each has its cell's length
   pub long : (j : ℕ) (y : Buf) → get_elem? bufs j ≡ some y → length y.bytes ≡ cell_length g (first + j)
+  -- and those of the cells before c have the round and their part of the bytes
   pub cuts : (j : ℕ) (y : Buf) → get_elem? bufs j ≡ some y → first + j < c → (y.round ≡ k) × (y.bytes ≡ cut g (first + j) b)
 
+-- the buffers that are lent are so before the first cell
 pub none_filled : (s : MarkHeld) (k p : ℕ) (b : List ℕ) → AreLent k p s
     → AreSoFar s.view.geometry k (first_sent s.view.geometry p) (first_sent s.view.geometry p) (sent_count s.view.geometry p) b s.out
 none_filled s k p b lent = record {
@@ -42,6 +49,7 @@ spot_is s k p c first low = ((let z : s.first ≤ slot_number s.view.geometry (k
 module _ (s : MarkHeld) (k p c : ℕ) (b : List ℕ) (first : s.first ≡ sent_slot s.view.geometry k p) (low : first_sent s.view.geometry p ≤ c)
     (high : c < first_sent s.view.geometry p + sent_count s.view.geometry p)
     (h : AreSoFar s.view.geometry k (first_sent s.view.geometry p) c (sent_count s.view.geometry p) b s.out) where
+  -- the slot of cell c is out, with a buffer of the cell's length
   pub next_held : (y : Buf) × HasOut s (k % s.view.geometry.depth) c (Some y) × (length y.bytes ≡ cell_length s.view.geometry c)
   next_held =
       let w = spot_is s k p c first low in
@@ -52,6 +60,7 @@ module _ (s : MarkHeld) (k p c : ℕ) (b : List ℕ) (first : s.first ≡ sent_s
       let back : first_sent s.view.geometry p + i ≡ c = omega arith in
       (y.0, record { from = w.0; at = ap (get_elem? s.out) w.1 ∙ at }, h.long i y.0 y.1 ∙ ap (cell_length s.view.geometry) back)
 
+  -- with its part of the bytes in that slot, so are the buffers before cell c + 1
   pub next_filled : IsShape s.view.geometry → c < cells s.view.geometry → length b ≡ s.view.geometry.send_bytes
       → AreSoFar s.view.geometry k (first_sent s.view.geometry p) (c + 1) (sent_count s.view.geometry p) b
       (slice_set s.out (spot s (k % s.view.geometry.depth) c) (Some (buf k (cut s.view.geometry c b))))
@@ -83,6 +92,7 @@ module _ (s : MarkHeld) (k p c : ℕ) (b : List ℕ) (first : s.first ≡ sent_s
         ];
       }
 
+-- behind the last cell all are filled
 pub all_filled : (s : MarkHeld) (k p c : ℕ) (b : List ℕ) → s.first ≡ sent_slot s.view.geometry k p → first_sent s.view.geometry p + sent_count s.view.geometry p ≤ c
     → AreSoFar s.view.geometry k (first_sent s.view.geometry p) c (sent_count s.view.geometry p) b s.out → AreFilled k p b s
 all_filled s k p c b first all h = record {

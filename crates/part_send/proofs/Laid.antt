@@ -44,28 +44,38 @@ touch_no g v p i inside apart = elim (cases_Bool (touches g p i)) [
 
 -- the pieces over partition p are those from `low` to `high`
 pub record AreOver (g : Shape) (p low high : ℕ) : Type 0 where
+  -- the geometry keeps its limits
   pub shape : IsShape g
+  -- p is a partition of the pair
   pub part : p < g.send_parts
+  -- `low` is the piece of p's first cell
   pub low_is : low ≡ piece_of g (first_sent g p)
+  -- `high` is that of its last cell
   pub high_is : high ≡ piece_of g (first_sent g (p + 1) - 1)
+  -- so it isn't before `low`
   pub order : low ≤ high
+  -- and is a piece of the pair
   pub inside : high < pieces g
 
+-- the pieces of the first and the last cell are such
 pub are_over : (g : Shape) → IsShape g → (p low high : ℕ) → p < g.send_parts → low ≡ piece_of g (first_sent g p) → high ≡ piece_of g (first_sent g (p + 1) - 1) → AreOver g p low high
 are_over g v p low high part l h =
     let some = touched-some g v p part in let order = some.0 in let most = some.1 in
     record { shape = v; part = part; low_is = l; high_is = h; order = omega arith; inside = omega arith }
 
 module _ (g : Shape) (p low high : ℕ) (o : AreOver g p low high) where
+  -- each of them touches p
   pub touch_in : (i : ℕ) → low ≤ i → i ≤ high → Touches g i p
   touch_in i a b =
       let l = o.low_is in let h = o.high_is in let most = o.inside in
       (touched g o.shape p i o.part (omega arith)).1 (omega arith, omega arith)
 
+  -- and what touches p is one of them
   pub in_touch : (i : ℕ) → i < pieces g → Touches g i p → (low ≤ i) × (i ≤ high)
   in_touch i inside t =
       let l = o.low_is in let h = o.high_is in let r = (touched g o.shape p i o.part inside).0 t in let a = r.0 in let b = r.1 in (omega arith, omega arith)
 
+  -- so they are the list of the pieces over p
   pub over_is : pieces_over g p ≡ range_with_len low (high + 1 - low)
   over_is =
       let most = o.inside in let order = o.order in
@@ -76,16 +86,20 @@ module _ (g : Shape) (p low high : ℕ) (o : AreOver g p low high) where
 
 -- the claim of partition p in round k pends until all of its pieces have it: those before piece i do
 pub record Pends (k p low high i : ℕ) (pending : Option Pending) : Type 0 where
+  -- up to the last piece it pends, with those before piece i laid and none from i on
   pub goes : i ≤ high → (x : Pending) × (pending ≡ Some x) × (x.round ≡ k) × (x.partition ≡ p)
       × ((j : ℕ) → low ≤ j → j < i → has x.laid j ≡ true) × ((j : ℕ) → i ≤ j → has x.laid j ≡ false)
+  -- behind the last piece nothing pends
   pub done : high < i → pending ≡ None
 
+-- a claim with nothing laid so far pends at the first piece
 pub first_pends : (g : Shape) (k p low high : ℕ) → AreOver g p low high → Pends k p low high low (Some record { round = k; partition = p; laid = [] })
 first_pends g k p low high o = record {
   goes = λ _. (record { round = k; partition = p; laid = [] }, refl, refl, refl, (λ j a b. absurd (omega arith)), (λ j a. refl));
   done = λ past. absurd (let order = o.order in omega arith);
 }
 
+-- what is left of it when piece i is laid pends at the next
 pub next_pends : (g : Shape) (k p low high i : ℕ) (x : Pending) → AreOver g p low high → low ≤ i → i ≤ high → x.round ≡ k → x.partition ≡ p
     → ((j : ℕ) → low ≤ j → j < i → has x.laid j ≡ true) → ((j : ℕ) → i ≤ j → has x.laid j ≡ false) → Pends k p low high (i + 1) (left_of g i x)
 next_pends g k p low high i x o a b round part before behind = record {
@@ -119,15 +133,24 @@ next_pends g k p low high i x o a b round part before behind = record {
 
 -- the filled buffers that are still out before piece i are those from `cell` on
 pub record AreLeft (g : Shape) (k p high i : ℕ) (b : List ℕ) (first : ℕ) (out : List (Option Buf)) : Type 0 where
+  -- the first cell of which a buffer is out
   pub cell : ℕ
+  -- it is the first that p and piece i share
   pub here : i ≤ high → cell ≡ first_shared g p i
+  -- behind the last piece, it is the one behind p's cells
   pub past : high < i → cell ≡ first_sent g (p + 1)
+  -- the buffers
   pub bufs : List Buf
+  -- each slot that is out has one
   pub is : out ≡ map Some bufs
+  -- the first of these slots is that cell's
   pub starts : first ≡ slot_number g (k % g.depth) cell
+  -- there is one for each of p's cells from that one on
   pub count : cell + length bufs ≡ first_sent g (p + 1)
+  -- and each is filled with its part of the bytes
   pub cuts : AreCuts g k b cell bufs
 
+-- before the first piece all of p's buffers are
 pub first_left : (s : MarkHeld) (k p low high : ℕ) (b : List ℕ) → AreOver s.view.geometry p low high → AreFilled k p b s → AreLeft s.view.geometry k p high low b s.first s.out
 first_left s k p low high b o f = record {
   cell = first_sent s.view.geometry p;
@@ -147,6 +170,7 @@ module _ (g : Shape) (k p low high i : ℕ) (b : List ℕ) (first : ℕ) (out : 
   few_cells : shared_count g p i ≤ length l.bufs
   few_cells = let here = l.here h in let n = l.count in let some = some_cells in omega arith
 
+  -- the first of them are those that p and piece i share, as a lay of the claim asks
   pub is_filled : (d : View) (x : Pending) → d.geometry ≡ g → d.pending ≡ Some x → x.round ≡ k → x.partition ≡ p → has x.laid i ≡ false → Contains d.marks (mark k p b)
       → IsFilled k p i d first out
   is_filled d x same pends round part lacks marked =
@@ -167,6 +191,7 @@ module _ (g : Shape) (k p low high i : ℕ) (b : List ℕ) (first : ℕ) (out : 
             (subst (λ (c : ℕ). AreCuts g k b c (take n l.bufs)) (l.here h) (every_take (λ c (y : Buf). (y.round ≡ k) × (y.bytes ≡ cut g c b)) l.cell n l.bufs l.cuts));
       }
 
+  -- without those, the ones from the next piece on are left
   pub next_left : AreLeft g k p high (i + 1) b (first + shared_count g p i) (drop (shared_count g p i) out)
   next_left =
       let n : ℕ = shared_count g p i in let at = l.here h in let some = some_cells in let few = few_cells in
@@ -184,6 +209,7 @@ module _ (g : Shape) (k p low high i : ℕ) (b : List ℕ) (first : ℕ) (out : 
         cuts = every_drop (λ c (y : Buf). (y.round ≡ k) × (y.bytes ≡ cut g c b)) l.cell n l.bufs l.cuts;
       }
 
+-- behind the last piece none is left
 pub none_left : (g : Shape) (k p high i : ℕ) (b : List ℕ) (first : ℕ) (out : List (Option Buf)) → high < i → AreLeft g k p high i b first out → out ≡ []
 none_left g k p high i b first out past l = l.is ∙ ap (map Some) (empty l.bufs (let c = l.past past in let n = l.count in omega arith))
   where
@@ -194,15 +220,24 @@ none_left g k p high i b first out past l = l.is ∙ ap (map Some) (empty l.bufs
 -- The seat t laid its claim into the pieces before piece i, and is s: nothing but what it has seen of piece words and the claim changed, and
 -- `sent` of these pieces are full.
 pub record AreLaid (t s : MarkHeld) (k p low high i sent : ℕ) : Type 0 where
+  -- the seat is of the same table
   pub table : s.table ≡ t.table
+  -- its view is the same but for what it has seen and the claim
   pub view : s.view ≡ record t.view { seen = s.view.seen; looks = s.view.looks; pending = s.view.pending }
+  -- it has seen the same of the claim words, as often
   pub claims : (c : ℕ) → c < claim_words t.view.geometry → (seen s.view (Claim c) ≡ seen t.view (Claim c)) × (looks s.view (Claim c) ≡ looks t.view (Claim c))
+  -- the view has all words
   pub wide : IsWide s.view
+  -- the claim pends at piece i
   pub pends : Pends k p low high i s.view.pending
+  -- the buffers of its mark that are out are those from piece i on
   pub left : (b : List ℕ) × Contains t.view.marks (mark k p b) × AreLeft t.view.geometry k p high i b s.first s.out
+  -- `sent` counts the pieces laid so far that are seen full
   pub sent_is : sent ≡ count_by (λ j. is_full t.view.geometry (seen s.view (Piece (k % t.view.geometry.depth) j)) k j) (range_with_len low (i - low))
+  -- so it is no more than they are
   pub few : sent + low ≤ i
 
+-- before the first piece the seat t is so itself
 pub none_laid : (t : MarkHeld) (k p low high : ℕ) → AreOver t.view.geometry p low high → IsWide t.view → t.view.pending ≡ Some record { round = k; partition = p; laid = [] }
     → (b : List ℕ) → Contains t.view.marks (mark k p b) → AreFilled k p b t → AreLaid t t k p low high low 0
 none_laid t k p low high o wide pends b marked filled = record {
@@ -222,12 +257,14 @@ module _ (t s : MarkHeld) (k p low high i sent : ℕ) (o : AreOver t.view.geomet
   same : s.view.geometry ≡ t.view.geometry
   same = ap (λ (z : View). z.geometry) inv.view
 
+  -- piece i may be laid now
   pub may_lay : IsFilled k p i s.view s.first s.out
   may_lay =
       let q = inv.pends.goes h in
       is_filled t.view.geometry k p low high i inv.left.0 s.first s.out o a h inv.left.2 s.view q.0 same q.1 q.2 q.3 (q.5 i (omega arith))
       (subst (λ (z : View). Contains z.marks (mark k p inv.left.0)) (sym inv.view) inv.left.1)
 
+  -- and when it is, one more is laid, and counted where the word then is full
   pub next_laid : (w : ℕ) (full : Bool) (sent' : ℕ) → is_full t.view.geometry (with_part t.view.geometry i p w) k i ≡ full → sent' ≡ sent + (if full then 1 else 0)
       → AreLaid t (laid_at p i (inv.pends.goes h).0 w s) k p low high (i + 1) sent'
   next_laid w full sent' is count =
@@ -278,6 +315,7 @@ module _ (t s : MarkHeld) (k p low high i sent : ℕ) (o : AreOver t.view.geomet
       one_most true = omega arith
       one_most false = omega arith
 
+-- behind the last piece the claim is laid, no buffer is out, and `sent` counts all over p that are full
 pub all_laid : (t s : MarkHeld) (k p low high i sent : ℕ) → AreOver t.view.geometry p low high → high + 1 ≡ i → AreLaid t s k p low high i sent
     → HasLaid t s × (s.out ≡ []) × (sent ≡ full_over s.view k p)
 all_laid t s k p low high i sent o end inv =

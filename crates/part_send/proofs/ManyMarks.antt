@@ -1,4 +1,5 @@
--- One mark after another: the entries marked so far, and where a call stops.
+-- One mark after another: the entries marked so far, and where a call stops. The first i entries are a list with one
+-- more at its end for each mark.
 use Rattle.std.proofs.Common.{◌≡◌, ℕ, ◌+◌, ◌-◌, ◌*◌, ◌<◌, ◌≤◌, Bool, true, ◌==◌, List, [], ◌∷◌, ◌++◌, length, get_or, take, Ok, Err, refl, sym, ap, ◌∙◌, subst, arith}
 use Rattle.std.proofs.lemmas.Bool.{eqb-true}
 use Rattle.std.proofs.lemmas.List.{take_all}
@@ -12,6 +13,7 @@ use Rattle.part_send.specs.declared.answers.ReadyStop.{ReadyStop}
 use Rattle.part_send.specs.Marking.{HasMarked, Tells}
 use Rattle.part_send.specs.Many.{part_of, entries, range_parts, MayStandAll, AreMarked, Goes, HasStopped}
 
+-- one more entry that was marked stands behind those before
 pub marked_more : (k : ℕ) (d : View) (es : List (ℕ × List ℕ)) (sent : ℕ) (e f : View) (x : ℕ × List ℕ) (n : ℕ) (m : Marked)
     → AreMarked k d es sent e → HasMarked e f k x.0 x.1 n m → AreMarked k d (es ++ x ∷ []) (sent + m.sent) f
 marked_more k d [] sent e f x n m h marked =
@@ -20,15 +22,18 @@ marked_more k d (y ∷ ys) sent e f x n m h marked =
     (h.0, h.1, h.2, h.3, h.4 + m.sent, marked_more k h.0 ys h.4 e f x n m h.5 marked, (let z = h.6 in omega arith))
 
 module _ (g : Shape) (parts bytes : List ℕ) where
+  -- a call has an entry for each partition of its list
   pub entries_many : length (entries g parts bytes) ≡ length parts
   entries_many = length-map-range_with_len (λ i. (get_or parts i 0, part_of g bytes i)) 0 (length parts)
 
+  -- the first i + 1 entries are the first i and the one with number i
   pub entries_next : (i : ℕ) → i < length parts → take (i + 1) (entries g parts bytes) ≡ take i (entries g parts bytes) ++ (get_or parts i 0, part_of g bytes i) ∷ []
   entries_next i low =
       let f : ℕ → ℕ × List ℕ = λ j. (get_or parts j 0, part_of g bytes j) in
       take-map-range_with_len f 0 (length parts) (i + 1) (omega arith)
       ∙ (map-range_with_len_more f 0 i i (omega arith) ∙ ap (λ (z : List (ℕ × List ℕ)). z ++ f i ∷ []) (sym (take-map-range_with_len f 0 (length parts) i (omega arith))))
 
+  -- from the list's end on they are all
   pub entries_all : (i : ℕ) → length parts ≤ i → take i (entries g parts bytes) ≡ entries g parts bytes
   entries_all i past = let n = entries_many in take_all i (entries g parts bytes) (omega arith)
 
@@ -38,6 +43,7 @@ module _ (old now : View) (k : ℕ) (parts bytes : List ℕ) (i p : ℕ) (marks 
   entry : ◌≡◌ {A = ℕ × List ℕ} (p, part_of now.geometry bytes marks.count) (get_or parts i 0, part_of old.geometry bytes i)
   entry = (λ j. (part j, part_of (same j) bytes (count j)))
 
+  -- where the next entry is marked, i + 1 are
   pub one_more : (new : View) (marks' : Marks) (u : Unit {0}) → Goes now new marks marks' (p, part_of now.geometry bytes marks.count) (Ok u)
       → AreMarked k old (take (i + 1) (entries old.geometry parts bytes)) marks'.sent new × (marks'.round ≡ k) × (marks'.count ≡ i + 1) × (new.geometry ≡ old.geometry)
   one_more new marks' u goes =
@@ -53,6 +59,7 @@ module _ (old now : View) (k : ℕ) (parts bytes : List ℕ) (i p : ℕ) (marks 
         ap (λ (z : View). z.geometry) goes.2.view ∙ same,
       )
 
+  -- where it is refused, the call stops at it
   pub stops : (new : View) (marks' : Marks) (stop : ReadyStop) → Goes now new marks marks' (p, part_of now.geometry bytes marks.count) (Err stop)
       → HasStopped old new k (entries old.geometry parts bytes) stop
   stops new marks' stop goes =
@@ -70,6 +77,7 @@ module _ (old now : View) (k : ℕ) (parts bytes : List ℕ) (i p : ℕ) (marks 
             (subst (λ (z : ℕ). Tells now new z p (part_of now.geometry bytes marks.count) goes.1.0 (Err stop.cause)) round goes.1.1);
       }
 
+  -- and its bytes may be marked where those of all entries may
   pub may_next : {T : Type 0} (may : T → ℕ → ℕ → ℕ → Type 0) (tag : T) → MayStandAll may tag old.geometry k parts bytes
       → p < now.geometry.send_parts → MayStand may tag marks.round (p * now.geometry.send_bytes) (part_of now.geometry bytes marks.count)
   may_next may tag all =
@@ -80,6 +88,7 @@ module _ (old now : View) (k : ℕ) (parts bytes : List ℕ) (i p : ℕ) (marks 
 pub range_many : (low high : ℕ) → length (range_parts low high) ≡ high + 1 - low
 range_many low high = length-range_with_len low (high + 1 - low)
 
+-- and each one's number
 pub range_at : (low high i : ℕ) → i < high + 1 - low → low + i ≡ get_or (range_parts low high) i 0
 range_at low high i inside = sym (get_or-range_with_len low (high + 1 - low) i 0 inside)
 

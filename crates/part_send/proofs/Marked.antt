@@ -1,4 +1,4 @@
--- A partition that was claimed, filled and laid is marked.
+-- A partition that was claimed, filled and laid is marked: the view has its mark and no claim, and has seen its pieces.
 use Rattle.std.proofs.Common.{◌≡◌, ℕ, ◌+◌, ◌/◌, ◌%◌, ◌^◌, ◌<◌, ◌≤◌, List, [], ◌∷◌, Option, Some, None, bit_or, sym, ap, ◌∙◌, subst, arith}
 use Rattle.std.specs.List.{range_with_len}
 use Rattle.std.proofs.lemmas.List.{get_or-set_other}
@@ -35,6 +35,7 @@ claimed_view a b k p bs n free right h =
     ∙ ap (claiming k p bs) (saw_next a.view free.wide (Claim (p / 32)) there h.lost h.shown (bit_or h.shown (2 ^ (p % 32)))
     ∙ ap (λ (m : ℕ). saw_often m (Claim (p / 32)) (bit_or h.shown (2 ^ (p % 32))) a.view) (sym h.steps)))
 
+-- the marker's view is the one before with this mark, and the full pieces over p are what was sent
 pub has_marked : (a b c d : MarkHeld) (k p : ℕ) (bs : List ℕ) (n sent : ℕ) → IsFree a → IsRight a.view.geometry p bs → HasClaimed a b k p bs n → c ≡ record b { out = c.out }
     → HasLaid c d → sent ≡ full_over d.view k p → HasMarked a.view d.view k p bs n record { round = k; partition = p; sent = sent }
 has_marked a b c d k p bs n sent free right h filled laid is =

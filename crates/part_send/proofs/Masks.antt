@@ -1,4 +1,5 @@
--- Words read by masks.
+-- Words read by masks: the bits of a word below 32 are those of a number of 32 bits, and an and with a mask reads
+-- some of them.
 use Rattle.std.proofs.Common.{◌≡◌, ℕ, ◌+◌, ◌*◌, ◌/◌, ◌%◌, ◌^◌, ◌<◌, Bool, true, false, ◌==◌, refl, sym, ap, ◌∙◌, arith, inl, inr}
 use Rattle.std.specs.Prelude.{bit_and}
 use Rattle.std.specs.Int.{bit_at}
@@ -16,12 +17,15 @@ use Rattle.pair_core.proofs.Words.{has_bit, has_shut, has_open}
 use Rattle.pair_core.proofs.Full.{full_passes, passes_full}
 use Rattle.pair_core.proofs.StateFull.{bits_full, full_bit}
 
+-- bit j of a word is that of its number of 32 bits
 pub word_bit : (w j : ℕ) → j < 32 → bit w j ≡ bit_at (bits_in w) j
 word_bit w j low = has_bit w (round_in w) (bits_in w) (shut_in w) (record { round = refl; shut = refl; bits = refl }) j low
 
+-- bit 32 of a shut word is set
 pub word_shut : (w : ℕ) → shut_in w ≡ true → bit w 32 ≡ 1
 word_shut w e = has_shut w (round_in w) (bits_in w) (record { round = refl; shut = e; bits = refl })
 
+-- and that of an open one isn't
 pub word_open : (w : ℕ) → shut_in w ≡ false → bit w 32 ≡ 0
 word_open w e = has_open w (round_in w) (bits_in w) (record { round = refl; shut = e; bits = refl })
 
@@ -34,9 +38,11 @@ pub all_set : (w p : ℕ) → bits_in w ≡ 4294967295 → bit w (p % 32) ≡ 1
 all_set w p e = word_bit w (p % 32) (omega arith) ∙ (ap (λ (z : ℕ). bit_at z (p % 32)) e ∙ bit_at_ones 32 (p % 32) (omega arith))
 
 module _ (w c n : ℕ) (low : n < 32) (unset : bit_at (bits_in w) n ≡ 0) (ones : (i : ℕ) → i < n → bit_at (bits_in w) i ≡ 1) where
+  -- the partitions of word c before the first bit that isn't set have their bits
   pub below_set : (j : ℕ) → j < 32 * c + n → j / 32 ≡ c → bit w (j % 32) ≡ 1
   below_set j less same = word_bit w (j % 32) (omega arith) ∙ ones (j % 32) (omega arith)
 
+  -- the partition of that bit is of word c, and lacks it
   pub least_unset : ((32 * c + n) / 32 ≡ c) × (bit w ((32 * c + n) % 32) ≡ 0)
   least_unset =
       let e : (32 * c + n) % 32 ≡ n = omega arith in

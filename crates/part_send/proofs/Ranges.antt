@@ -12,9 +12,11 @@ range_suc a (suc n) =
     let e : a + 1 + n ≡ a + suc n = omega arith in
     ap (λ (z : List ℕ). a ∷ z) (range_suc (a + 1) n ∙ ap (λ (m : ℕ). range_with_len (a + 1) n ++ m ∷ []) e)
 
+-- a range of one number more has it at its end
 pub range_more : (a n : ℕ) → range_with_len a (n + 1) ≡ range_with_len a n ++ (a + n) ∷ []
 range_more a n = ap (range_with_len a) (add-one n) ∙ range_suc a n
 
+-- a fold over one number more makes one step more
 pub fold_more : {X : Type 0} (f : X → ℕ → X) (d : X) (n : ℕ) → fold f d (range_with_len 0 (n + 1)) ≡ f (fold f d (range_with_len 0 n)) n
 fold_more f d n =
     let e : 0 + n ≡ n = omega arith in
@@ -60,9 +62,11 @@ same_fold f h m a (suc n) each =
     ap (λ (b : Bool). fold (λ (k x : ℕ). k + cond (f x) 1 0) (m + cond b 1 0) (range_with_len (a + 1) n)) (each a (omega arith) (omega arith))
     ∙ same_fold f h (m + cond (h a) 1 0) (a + 1) n (λ i low high. each i (omega arith) (omega arith))
 
+-- two tests that say the same on a range count the same there
 pub same_count : (f h : ℕ → Bool) (a n : ℕ) → ((i : ℕ) → a ≤ i → i < a + n → f i ≡ h i) → count_by f (range_with_len a n) ≡ count_by h (range_with_len a n)
 same_count f h a n each = same_fold f h 0 a n each
 
+-- one number more counts where it passes
 pub count_more : (f : ℕ → Bool) (a n : ℕ) (b : Bool) → f (a + n) ≡ b → count_by f (range_with_len a (n + 1)) ≡ count_by f (range_with_len a n) + (if b then 1 else 0)
 count_more f a n b is =
     ap (count_by f) (range_more a n)

@@ -37,15 +37,21 @@ times_none k p (m ∷ ms) none = elim (cases_Bool (is_mark k p m)) [
 
 -- what a test has looked at so far, and that its side is active
 pub record Looks (old d : View) : Type 0 where
+  -- the end did nothing but look
   pub looked : OnlyLooked old d
+  -- its view has all words
   pub wide : IsWide d
+  -- its seat is the send side's
   pub zeroth : d.number ≡ 0
+  -- and the side is active
   pub active : IsSendActive d.geometry d.send
 
 module _ (old d : View) (l : Looks old d) (x : Name) (fits : Fits d.geometry x) (w : ℕ) (learns : Learns d x w) where
+  -- with a look more, the end still did nothing but look
   pub next_looked : OnlyLooked old (saw x w d)
   next_looked = then_looked old d (saw x w d) l.looked (saw_looked d l.wide x fits w learns.later)
 
+  -- and it has seen the word that was found
   pub next_found : HasSeen old (saw x w d) x w
   next_found = then_found old d (saw x w d) x w l.looked (saw_found d l.wide x fits w learns.later)
 
@@ -59,6 +65,7 @@ module _ (old d : View) (l : Looks old d) (c : ℕ) (inside : c < claim_words d.
   here : seen (saw (Claim c) w d) (Claim c) ≡ w
   here = seen_here d l.wide (Claim c) inside w
 
+  -- a claim word that is found is open in the side's round
   pub claim_open : (round_in w ≡ d.send.round) × (bit w 32 ≡ 0)
   claim_open = subst (λ (z : ℕ). (round_in z ≡ d.send.round) × (bit z 32 ≡ 0)) here (learns.after.opened l.zeroth l.active c inside)
 
@@ -79,6 +86,7 @@ module _ (old d : View) (l : Looks old d) (c : ℕ) (inside : c < claim_words d.
         (was.0 ∙ sym round, was.1)
   ]
 
+  -- p is the least partition that isn't marked, where the word lacks it and has those before it
   pub unmarked : (p : ℕ) → p < d.geometry.send_parts → p / 32 ≡ c → bit w (p % 32) ≡ 0
       → ((j : ℕ) → j < old.geometry.send_parts → j / 32 < c → (round_in (seen d (Claim (j / 32))) ≡ old.send.round) × (part_bit (λ b. seen d (Claim b)) j ≡ 1))
       → ((j : ℕ) → j < p → j / 32 ≡ c → bit w (j % 32) ≡ 1) → IsUnmarked old (saw (Claim c) w d) p w
@@ -119,9 +127,11 @@ module _ (old d : View) (l : Looks old d) (v : IsShape d.geometry) (i : ℕ) (in
       (sym (seen_else d (Piece (d.send.round % d.geometry.depth) i) (Piece (d.send.round % d.geometry.depth) j) w (deep, inside) (deep, omega arith)
       (λ e. let f : j ≡ i = cc in absurd (omega arith)))) (full j low)
 
+  -- a look at a piece leaves what was seen of claims
   pub claims_stay : AreClaimed d d.geometry.send_parts → AreClaimed (saw (Piece (d.send.round % d.geometry.depth) i) w d) d.geometry.send_parts
   claims_stay = same_claims d.geometry.send_parts (omega arith)
 
+  -- where its word is full, the pieces below i + 1 are
   pub full_more : AreFull d i → is_full d.geometry w d.send.round i ≡ true → AreFull (saw (Piece (d.send.round % d.geometry.depth) i) w d) (i + 1)
   full_more full passes j low = elim (cases_eq j i) [
     | inl e ↦
@@ -131,6 +141,7 @@ module _ (old d : View) (l : Looks old d) (v : IsShape d.geometry) (i : ℕ) (in
     | inr other ↦ same_pieces full j (omega arith)
   ]
 
+  -- where it isn't, i is the least that isn't full, and a marker is out
   pub unsent : AreClaimed d d.geometry.send_parts → AreFull d i → is_full d.geometry w d.send.round i ≡ false
       → IsUnsent old (saw (Piece (d.send.round % d.geometry.depth) i) w d) i w
   unsent claimed full fails =
@@ -173,6 +184,7 @@ stops_from old d new (Unreleased r) looked h =
     record { claimed = k.claimed; full = k.full; word = h.word; found = then_found old d new Release h.word looked h.found; round = h.round; room = k.room }
 stops_from old d new Done looked h = h
 
+-- the same of a look that ends it or lets all be shut
 pub looked_from : (old d new : View) (r : Option SendTest) → OnlyLooked old d → MatchOption r (MayShut d.geometry (seen new) d.send.round) (Stops d new)
     → MatchOption r (MayShut old.geometry (seen new) old.send.round) (Stops old new)
 looked_from old d new None looked h = subst (λ (z : View). MayShut z.geometry (seen new) z.send.round) looked.same h

@@ -16,9 +16,11 @@ module _ (d : View) (x y : Name) (w : ℕ) (fits : Fits d.geometry x) (there : F
   apart : number d.geometry y ≢ number d.geometry x
   apart e = other (number_one d.geometry y x there fits e)
 
+  -- the word seen of it is the one before
   pub seen_else : seen (saw x w d) y ≡ seen d y
   seen_else = get_or-set_other d.seen (number d.geometry x) (number d.geometry y) w 0 apart
 
+  -- and so is the count of its looks
   pub looks_else : looks (saw x w d) y ≡ looks d y
   looks_else = get_or-set_other d.looks (number d.geometry x) (number d.geometry y) (looks d x + 1) 0 apart
 
@@ -29,12 +31,15 @@ module _ (d : View) (wide : IsWide d) (x : Name) (fits : Fits d.geometry x) (w :
   looks_room : number d.geometry x < length d.looks
   looks_room = subst (λ (z : ℕ). number d.geometry x < z) (sym wide.counts) (number_lt d.geometry x fits)
 
+  -- the word that was looked at is seen as it was found
   pub seen_here : seen (saw x w d) x ≡ w
   seen_here = get_or-set_same d.seen (number d.geometry x) w 0 seen_room
 
+  -- and has one look more
   pub looks_here : looks (saw x w d) x ≡ looks d x + 1
   looks_here = get_or-set_same d.looks (number d.geometry x) (looks d x + 1) 0 looks_room
 
+  -- no word goes back, where the one found is no earlier
   pub seen_rises : IsLater (seen d x) w → (y : Name) → IsLater (seen d y) (seen (saw x w d) y)
   seen_rises later y = elim (cases_eq (number d.geometry y) (number d.geometry x)) [
     | inl e ↦
@@ -43,6 +48,7 @@ module _ (d : View) (wide : IsWide d) (x : Name) (fits : Fits d.geometry x) (w :
     | inr other ↦ subst (IsLater (seen d y)) (sym (get_or-set_other d.seen (number d.geometry x) (number d.geometry y) w 0 other)) (later_refl (seen d y))
   ]
 
+  -- and no count of looks
   pub looks_rise : (y : Name) → looks d y ≤ looks (saw x w d) y
   looks_rise y = elim (cases_eq (number d.geometry y) (number d.geometry x)) [
     | inl e ↦
@@ -51,6 +57,7 @@ module _ (d : View) (wide : IsWide d) (x : Name) (fits : Fits d.geometry x) (w :
     | inr other ↦ let at = get_or-set_other d.looks (number d.geometry x) (number d.geometry y) (looks d x + 1) 0 other in omega arith
   ]
 
+-- a look leaves a word and a count for each word of the pair
 pub wide_saw : (d : View) (x : Name) (w : ℕ) → IsWide d → IsWide (saw x w d)
 wide_saw d x w wide = record {
   words = length-set d.seen (number d.geometry x) w ∙ wide.words;
@@ -61,6 +68,7 @@ wide_saw d x w wide = record {
 pub none_looked : (d : View) → OnlyLooked d d
 none_looked d = record { same = refl; rises = λ x. later_refl (seen d x); counts = λ x. omega arith }
 
+-- looks after looks are looks
 pub then_looked : (a b c : View) → OnlyLooked a b → OnlyLooked b c → OnlyLooked a c
 then_looked a b c first second = record {
   same = second.same ∙ ap (λ (z : View). record z { seen = c.seen; looks = c.looks }) first.same;
@@ -68,6 +76,7 @@ then_looked a b c first second = record {
   counts = λ x. let low = first.counts x in let high = second.counts x in omega arith;
 }
 
+-- what was found by a look after looks was found by all of them
 pub then_found : (a b c : View) (x : Name) (w : ℕ) → OnlyLooked a b → HasSeen b c x w → HasSeen a c x w
 then_found a b c x w first found = record {
   looked = (let low = first.counts x in let high = found.looked in omega arith);
@@ -75,9 +84,11 @@ then_found a b c x w first found = record {
   later = later_trans (seen a x) (seen b x) w (first.rises x) found.later;
 }
 
+-- one look is so, where the word found is no earlier
 pub saw_looked : (d : View) → IsWide d → (x : Name) → Fits d.geometry x → (w : ℕ) → IsLater (seen d x) w → OnlyLooked d (saw x w d)
 saw_looked d wide x fits w later = record { same = refl; rises = seen_rises d wide x fits w later; counts = looks_rise d wide x fits w }
 
+-- and it found that word
 pub saw_found : (d : View) → IsWide d → (x : Name) → Fits d.geometry x → (w : ℕ) → IsLater (seen d x) w → HasSeen d (saw x w d) x w
 saw_found d wide x fits w later = record {
   looked = (let h = looks_here d wide x fits w in omega arith);

@@ -123,12 +123,15 @@ module _ (d : View) (wide : IsWide d) (x : Name) (fits : Fits d.geometry x) wher
   looks_room : number d.geometry x < length d.looks
   looks_room = subst (λ (z : ℕ). number d.geometry x < z) (sym wide.counts) (number_lt d.geometry x fits)
 
+  -- the word is seen as the last of them found it
   pub often_seen : (n w : ℕ) → seen (saw_often n x w d) x ≡ w
   often_seen n w = get_or-set_same d.seen (number d.geometry x) w 0 seen_room
 
+  -- with n looks more
   pub often_looks : (n w : ℕ) → looks (saw_often n x w d) x ≡ looks d x + n
   often_looks n w = get_or-set_same d.looks (number d.geometry x) (looks d x + n) 0 looks_room
 
+  -- one after n looks makes n + 1, of which the last one's word is seen
   pub saw_next : (n v w : ℕ) → saw x w (saw_often n x v d) ≡ saw_often (n + 1) x w d
   saw_next n v w =
       let words = set-set d.seen (number d.geometry x) v w in
@@ -136,9 +139,11 @@ module _ (d : View) (wide : IsWide d) (x : Name) (fits : Fits d.geometry x) wher
       let many : looks (saw_often n x v d) x + 1 ≡ looks d x + (n + 1) = (let e = often_looks n v in omega arith) in
       (λ i. record d { seen = words i; looks = (counts ∙ ap (slice_set d.looks (number d.geometry x)) many) i })
 
+  -- where there is one at least, the last one's word is found
   pub often_found : (n w : ℕ) → 1 ≤ n → IsLater (seen d x) w → HasSeen d (saw_often n x w d) x w
   often_found n w some later = record { looked = (let e = often_looks n w in omega arith); shown = often_seen n w; later = later }
 
+-- they leave a word and a count for each word of the pair
 pub often_wide : (n : ℕ) (x : Name) (w : ℕ) (d : View) → IsWide d → IsWide (saw_often n x w d)
 often_wide n x w d wide = record {
   words = length-set d.seen (number d.geometry x) w ∙ wide.words;
