@@ -1,4 +1,5 @@
--- What a take by the receive end's seat says of the end and of the arrival.
+-- What a take by the receive end's seat says of the end and of the arrival: the end is the seat without its slots and
+-- shelves.
 use Rattle.std.proofs.Common.{◌≡◌, ℕ, ◌+◌, ◌*◌, ◌%◌, ◌<◌, ◌≤◌, true, false, length, get_or, refl, sym, ap, ◌∙◌, subst, arith}
 use Rattle.part_geometry.specs.Shape.{Shape, IsShape}
 use Rattle.part_tables.specs.Parts.{first_received}
@@ -24,6 +25,7 @@ use Rattle.part_recv.proofs.Lending.{flags_out}
 pub sees_geometry : (k q : ℕ) (old new : View) → SeesAll k q old new → new.geometry ≡ old.geometry
 sees_geometry k q old new h = ap (λ (z : View). z.geometry) h.looks.view ∙ looked_geometry _ _ h.words old
 
+-- nor does it change the side
 pub sees_recv : (k q : ℕ) (old new : View) → SeesAll k q old new → new.recv ≡ old.recv
 sees_recv k q old new h = ap (λ (z : View). z.recv) h.looks.view ∙ ap (λ (z : View). z.recv) (looked_is _ _ h.words old)
 
@@ -46,15 +48,19 @@ module _ (q : ℕ) (s : RecvHeld) (o : End) (looks : LookedAll q o (end_of s)) w
   view_is : s.view ≡ looks.view
   view_is = ap (λ (z : End). z.view) looks.end
 
+  -- the seat has the end's geometry
   pub same_geometry : s.view.geometry ≡ o.view.geometry
   same_geometry = ap (λ (z : View). z.geometry) view_is ∙ sees_geometry o.view.recv.round q o.view looks.view looks.sees
 
+  -- its side
   pub same_recv : s.view.recv ≡ o.view.recv
   same_recv = ap (λ (z : View). z.recv) view_is ∙ sees_recv o.view.recv.round q o.view looks.view looks.sees
 
+  -- its lanes
   pub same_lanes : s.lanes ≡ o.lanes
   same_lanes = ap (λ (z : End). z.lanes) looks.end
 
+  -- and its round
   pub same_round : s.view.recv.round ≡ o.view.recv.round
   same_round = ap (λ (z : RecvSide). z.round) same_recv
 
@@ -69,6 +75,7 @@ module _ (q : ℕ) (s : RecvHeld) (o : End) (looks : LookedAll q o (end_of s)) w
   arrived shelf = record { geometry = o.view.geometry; round = o.view.recv.round; partition = q; bytes = bytes_in shelf.bufs }
 
   module _ (may : ℕ → ℕ → ℕ → Type 0) (shelf : Room) (t : RecvHeld) (h : PartTaken may q shelf s t) where
+    -- the shelf has what is kept of an arrival of the partition in that round
     pub arrival_is : q < o.view.geometry.recv_parts → IsArrival o.view.geometry o.view.recv.round q shelf
     arrival_is part = record {
       part = part;
@@ -78,6 +85,7 @@ module _ (q : ℕ) (s : RecvHeld) (o : End) (looks : LookedAll q o (end_of s)) w
       room = subst (λ (z : Shape). cells_of z q ≤ shelf.room) same_geometry h.room;
     }
 
+    -- the end has taken the partition with the bytes of the arrival
     pub taken_says : MayLook q o → HasFlags false false q o.lanes → (a : Arrived) → a ≡ arrived shelf → Takes may q a o (end_of t)
     taken_says active free a is =
         let one : Takes may q (arrived shelf) o (end_of t) = record {
@@ -92,6 +100,7 @@ module _ (q : ℕ) (s : RecvHeld) (o : End) (looks : LookedAll q o (end_of s)) w
         } in
         subst (λ (z : Arrived). Takes may q z o (end_of t)) (sym is) one
 
+    -- and the arrival is out of it
     pub taken_out : q < length s.lanes → (a : Arrived) → a ≡ arrived shelf → IsOut a (end_of t)
     taken_out inside a is =
         let one : IsOut (arrived shelf) (end_of t) = subst (λ (z : RecvHeld). IsOut (arrived shelf) (end_of z)) (sym h.seat) record {

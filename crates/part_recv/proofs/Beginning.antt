@@ -1,4 +1,5 @@
--- The receive seat of a new pair is at rest: an end may be made of it.
+-- The receive seat of a new pair is at rest: an end may be made of it. Its first view is idle, and the shelves are made
+-- for the cells.
 use Rattle.std.proofs.Common.{◌≡◌, ℕ, zero, suc, ◌+◌, ◌<◌, map, ap, ◌∙◌, arith}
 use Rattle.std.specs.List.{range_with_len}
 use mathlib.Core.Option.{some}
@@ -14,6 +15,7 @@ table_at f a zero i low = absurd (omega arith)
 table_at f a (suc n) zero low = ap (λ (z : ℕ). some (f z)) (let e : a ≡ a + 0 = omega arith in e)
 table_at f a (suc n) (suc i) low = table_at f (a + 1) n i (omega arith) ∙ ap (λ (z : ℕ). some (f z)) (let e : a + 1 + i ≡ a + suc i = omega arith in e)
 
+-- the seat with the first view and the first shelves is at rest
 pub first_rests : FirstRests
 first_rests g s view shelves = record {
   idle = ap (λ z. z.recv.released) view;

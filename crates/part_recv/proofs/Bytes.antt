@@ -9,23 +9,28 @@ use Rattle.slot_rows.proofs.Overlays.{take_next}
 use Rattle.pair_rule.specs.Buf.{Buf}
 use Rattle.part_recv.specs.Taking.{bytes_in}
 
+-- the bytes of two lists of buffers are those of the one and then those of the other
 pub bytes_in-append : (a b : List Buf) → bytes_in (a ++ b) ≡ bytes_in a ++ bytes_in b
 bytes_in-append [] b = refl
 bytes_in-append (x ∷ a) b = ap (λ (z : List ℕ). x.bytes ++ z) (bytes_in-append a b) ∙ sym (append_assoc x.bytes (bytes_in a) (bytes_in b))
 
 -- byte i of all is byte `at` of the buffers from number n on
 pub record IsByte (bufs : List Buf) (i at n : ℕ) : Type 0 where
+  -- there is such a byte
   pub inside : at < length (bytes_in (drop n bufs))
+  -- and it is the same one
   pub same : get_or (bytes_in bufs) i 0 ≡ get_or (bytes_in (drop n bufs)) at 0
 
 -- the bytes of the buffers from number n on, where b is that one
 pub bytes_from : (bufs : List Buf) (n : ℕ) (b : Buf) → get_elem? bufs n ≡ some b → bytes_in (drop n bufs) ≡ b.bytes ++ bytes_in (drop (n + 1) bufs)
 bytes_from bufs n b e = ap bytes_in (at_split bufs n b e).1 ∙ ap (λ (z : ℕ). b.bytes ++ bytes_in (drop z bufs)) (let o : suc n ≡ n + 1 = omega arith in o)
 
+-- where `at` is within buffer n, it is the buffer's own byte
 pub byte_here : (bufs : List Buf) (i at n : ℕ) (b : Buf) → IsByte bufs i at n → get_elem? bufs n ≡ some b → at < length b.bytes → get_or b.bytes at 0 ≡ get_or (bytes_in bufs) i 0
 byte_here bufs i at n b h e low =
     sym (h.same ∙ (ap (λ (z : List ℕ). get_or z at 0) (bytes_from bufs n b e) ∙ get_or_append_left b.bytes (bytes_in (drop (n + 1) bufs)) 0 at low))
 
+-- where it is behind buffer n, it is a byte of the buffers from n + 1 on
 pub byte_next : (bufs : List Buf) (i at n : ℕ) (b : Buf) → IsByte bufs i at n → get_elem? bufs n ≡ some b → length b.bytes ≤ at → IsByte bufs i (at - length b.bytes) (n + 1)
 byte_next bufs i at n b h e high =
     let s = bytes_from bufs n b e in

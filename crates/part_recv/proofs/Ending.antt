@@ -30,6 +30,7 @@ use Rattle.part_recv.proofs.Lending.{lane_at}
 
 -- ---- the side
 
+-- a view of the same geometry and side is active or idle as the other is
 pub side_same : (a : Bool) (d e : View) → d.geometry ≡ e.geometry → d.recv ≡ e.recv → IsSide a d → IsSide a e
 side_same true d e g r h = subst (λ (z : Shape × RecvSide). IsRecvActive z.0 z.1) (λ i. (g i, r i)) h
 side_same false d e g r h = subst IsRecvIdle r h
@@ -39,6 +40,7 @@ pub side_flag : (a : Bool) (d : View) → IsSide a d → is_active d ≡ a
 side_flag true d h = eq-eqb d.recv.released 0 h.1
 side_flag false d h = ap (λ (n : ℕ). n == 0) h
 
+-- a side that a view says to be active is
 pub side_active : (a : Bool) (d : View) → IsSide a d → is_active d ≡ true → IsRecvActive d.geometry d.recv
 side_active true d h e = h
 side_active false d h e = absurd (true≢false (sym e ∙ side_flag false d h))
@@ -50,11 +52,13 @@ out_active false d n q t ls h lanes flags =
     let home = (lanes.each q flags.lane flags.at).home (λ active. let b = active.1 in absurd (omega (arith, h))) in
     absurd (true≢false (sym flags.out ∙ home))
 
+-- no lane of an idle side is out
 pub idle_home : (d : View) (n : ℕ) (ls : List Lane) → AreLanes d n ls → IsRecvIdle d.recv → AreHome ls
 idle_home d n ls lanes idle = λ q l at. (lanes.each q l at).home (λ active. let b = active.1 in absurd (omega (arith, idle)))
 
 -- ---- another view, with the same geometry and round
 
+-- the seat with such a view keeps what the end has
 pub end_view : (a b : Bool) (w v : ℕ) (s : RecvHeld) (d : View) → d.geometry ≡ s.view.geometry → d.recv.round ≡ s.view.recv.round → IsSide b d → v ≡ d.recv.watchers → IsEnd a w s → IsEnd b v (record s { view = d })
 end_view a b w v s d g r side out h = record {
   side = side;
@@ -67,6 +71,7 @@ end_view a b w v s d g r side out h = record {
 
 -- ---- a seat at rest
 
+-- one at rest may be an idle end's, with no watcher out
 pub end_begins : (s : RecvHeld) → AreLanes s.view (length s.slots) s.lanes → IsAtRest s → IsEnd false 0 s
 end_begins s lanes h = record {
   side = h.idle;
@@ -75,6 +80,7 @@ end_begins s lanes h = record {
   shelves = λ q l at home. h.shelves q (subst (λ (z : ℕ). q < z) lanes.parts (at_split s.lanes q l at).0);
 }
 
+-- an idle end's with no watcher out is at rest
 pub end_rests : (a : Bool) (w : ℕ) (s : RecvHeld) → AreLanes s.view (length s.slots) s.lanes → IsEnd a w s → is_active s.view ≡ false → s.view.recv.watchers ≡ 0 → IsAtRest s
 end_rests true w s lanes h idle alone = absurd (true≢false (sym (side_flag true s.view h.side) ∙ idle))
 end_rests false w s lanes h idle alone = record {
@@ -92,6 +98,7 @@ untaken_at [] q l e = absurd (some-ne-none l (sym e))
 untaken_at (x ∷ xs) zero l e = ((x, refl), sym (ap (λ (z : Lane). z.out) (some-injective (record x { taken = false; out = false }) l e)))
 untaken_at (x ∷ xs) (suc q) l e = untaken_at xs q l e
 
+-- the end is active with all lanes untaken, where all were home
 pub end_starts : (a : Bool) (w : ℕ) (s : RecvHeld) (d : View) → d.geometry ≡ s.view.geometry → IsSide true d → w ≡ d.recv.watchers → AreHome s.lanes → IsEnd a w s → IsEnd true w (record s { view = d; lanes = all_untaken s.lanes })
 end_starts a w s d g side out home h = record {
   side = side;
@@ -107,6 +114,7 @@ end_starts a w s d g side out home h = record {
 
 -- ---- a take
 
+-- after it what the end keeps holds: the partition's slots are out and empty, and its shelf is away
 pub end_takes : (may : ℕ → ℕ → ℕ → Type 0) (a : Bool) (w q : ℕ) (shelf : Room) (s t : RecvHeld) → AreLanes s.view (length s.slots) s.lanes → HasFlags false false q s.lanes → PartTaken may q shelf s t → IsEnd a w s → IsEnd a w t
 end_takes may a w q shelf s t lanes free h end =
     let g : Shape = s.view.geometry in let base : ℕ = place_of s.view * cells g in
@@ -143,9 +151,11 @@ module _ (a : Bool) (w q : ℕ) (s : RecvHeld) (lanes : AreLanes s.view (length 
       let b = spliced_block (place s.lanes q) (own_slot s.view q) (cells_of g q) (replicate (cells_of g q) None) rest (place_before None base q s.lanes) (length-replicate (cells_of g q) None) in
       (ap (λ (z : List (ℕ × Option Buf)). take (cells_of g q) (drop (place s.lanes q) z)) is ∙ b.0, ap (λ (z : List (ℕ × Option Buf)). without_part g s.lanes q z) is ∙ b.1)
 
+  -- the slots of a partition that is out are empty
   pub out_values : HasOut (place_of s.view) q (replicate (cells_of s.view.geometry q) None) s
   out_values = record { size = length-replicate (cells_of s.view.geometry q) None; stand = block.0 }
 
+  -- after it what the end keeps holds: the partition's slots are home, and its shelf is empty
   pub end_returns : (shelf : Room) → length s.shelves ≡ s.view.geometry.recv_parts → cells_of s.view.geometry q ≤ shelf.room → IsEnd a w (part_returned q shelf s)
   end_returns shelf size room = record {
     side = side_same a s.view (returned_from q (seen s.view (Return (q / 32))) s.view) refl refl end.side;
@@ -167,16 +177,20 @@ module _ (a : Bool) (w q : ℕ) (s : RecvHeld) (lanes : AreLanes s.view (length 
 
 -- ---- what the flags of a lane say of the words
 
+-- the take word has a partition whose lane is taken
 pub taken_bit : (d : View) (n q : ℕ) (o : Bool) (ls : List Lane) → AreLanes d n ls → HasFlags true o q ls → part_bit (λ t. seen d (Take t)) q ≡ 1
 taken_bit d n q o ls lanes h = (lanes.each q h.lane h.at).taken ∙ ap flag h.taken
 
+-- and lacks one whose lane isn't
 pub free_bit : (d : View) (n q : ℕ) (o : Bool) (ls : List Lane) → AreLanes d n ls → HasFlags false o q ls → part_bit (λ t. seen d (Take t)) q ≡ 0
 free_bit d n q o ls lanes h = (lanes.each q h.lane h.at).taken ∙ ap flag h.taken
 
+-- in an active side the return word lacks a partition that is out
 pub out_bit : (d : View) (n q : ℕ) (ls : List Lane) → AreLanes d n ls → IsRecvActive d.geometry d.recv → HasFlags true true q ls → part_bit (λ t. seen d (Return t)) q ≡ 0
 out_bit d n q ls lanes active h =
     let e = (lanes.each q h.lane h.at).out active in let a = ap flag h.taken in let b = ap flag h.out in omega arith
 
+-- and has one that is taken and isn't out
 pub back_bit : (d : View) (n q : ℕ) (ls : List Lane) → AreLanes d n ls → IsRecvActive d.geometry d.recv → HasFlags true false q ls → part_bit (λ t. seen d (Return t)) q ≡ 1
 back_bit d n q ls lanes active h =
     let e = (lanes.each q h.lane h.at).out active in let a = ap flag h.taken in let b = ap flag h.out in omega arith

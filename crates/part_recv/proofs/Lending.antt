@@ -25,9 +25,11 @@ lane_at [] q h = absurd (omega arith)
 lane_at (l ∷ ls) zero h = (l, refl)
 lane_at (l ∷ ls) (suc q) h = lane_at ls q (omega arith)
 
+-- the slots of a partition begin within those that are out
 pub place_fits : (s : RecvHeld) (q : ℕ) → AreLanes s.view (length s.slots) s.lanes → place s.lanes q ≤ length s.slots
 place_fits s q lanes = let a = wide_below q s.lanes in let b = lanes.total in omega arith
 
+-- a partition's lane has the flags that were put for it
 pub flags_out : (t o : Bool) (q : ℕ) (ls : List Lane) → q < length ls → HasFlags t o q (flagged t o q ls)
 flags_out t o q ls h = let l = lane_at ls q h in flags_here l.0.taken l.0.out t o q ls record { lane = l.0; at = l.1; taken = refl; out = refl }
 
@@ -38,10 +40,12 @@ shelf_one a b e = cc
 -- ---- a take
 
 module _ (may : ℕ → ℕ → ℕ → Type 0) (q e found : ℕ) (s t : RecvHeld) (lanes : AreLanes s.view (length s.slots) s.lanes) (there : e ≡ place_of s.view) (h : HasTaken may q found s t) where
+  -- its lane is taken and out then
   pub taken_flags : q < s.view.geometry.recv_parts → HasFlags true true q t.lanes
   taken_flags part =
       subst (λ (z : RecvHeld). HasFlags true true q z.lanes) (sym h.seat) (flags_out true true q s.lanes (let n = lanes.parts in omega arith))
 
+  -- its slots have the buffers that were taken
   pub taken_values : HasOut e q (map Some h.bufs) t
   taken_values =
       let g : Shape = s.view.geometry in
@@ -63,6 +67,7 @@ module _ (may : ℕ → ℕ → ℕ → Type 0) (q e found : ℕ) (s t : RecvHel
       (λ i. overlaid (flagged_place true true q s.lanes i) (first_slot g (there i) q) nones (spliced (place s.lanes q) (own_slot s.view q) (map Some h.bufs) s.slots))
       ∙ over_spliced (place s.lanes q) (own_slot s.view q) (cells_of g q) nones (map Some h.bufs) s.slots (place_fits s q lanes) (length-replicate (cells_of g q) None) (length-map h.bufs Some ∙ h.are.size)
 
+  -- with the slots emptied onto the shelf, the seat is the one before with q taken and its slots empty
   pub lent_seat : (shelf : Room) (n : RecvHeld) → n ≡ with_values e q (replicate (cells_of t.view.geometry q) None) t → HasOut e q (map Some shelf.bufs) t → found ≡ seen s.view (Take (q / 32))
       → n ≡ record s {
         view = taken_from q (bytes_in shelf.bufs) (seen s.view (Take (q / 32))) s.view;
@@ -74,6 +79,7 @@ module _ (may : ℕ → ℕ → ℕ → Type 0) (q e found : ℕ) (s t : RecvHel
       is ∙ (ap (λ (z : RecvHeld). with_values e q (replicate (cells_of z.view.geometry q) None) z) h.seat
       ∙ (λ i. record s { view = taken_from q (with i) (word i) s.view; lanes = flagged true true q s.lanes; slots = lent_slots i }))
 
+  -- the buffers of the shelf are what the take found, with their bytes
   pub lent_are : (shelf : Room) → HasOut e q (map Some shelf.bufs) t → AreTaken may s.view q shelf.bufs (bytes_in shelf.bufs)
   lent_are shelf out =
       let same = same_bufs shelf.bufs out in
@@ -90,6 +96,7 @@ module _ (q e : ℕ) (s : RecvHeld) (shelf : Room) (lanes : AreLanes s.view (len
       × (without_part s.view.geometry s.lanes q (overlaid (place s.lanes q) (first_slot s.view.geometry e q) (map Some shelf.bufs) s.slots) ≡ without_part s.view.geometry s.lanes q s.slots)
   block = overlaid_block (place s.lanes q) (first_slot s.view.geometry e q) (cells_of s.view.geometry q) (map Some shelf.bufs) s.slots (place_fits s q lanes) (length-map shelf.bufs Some ∙ full)
 
+  -- the slots are filled then, each with a buffer of the round and of its cell's length
   pub filled_values : (shelves : List (Option Room)) → AreOf s.view.geometry s.view.recv.round (first_received s.view.geometry q) shelf.bufs → HasFilled q (filled_seat shelves)
   filled_values shelves of = record {
     bufs = shelf.bufs;
@@ -100,6 +107,7 @@ module _ (q e : ℕ) (s : RecvHeld) (shelf : Room) (lanes : AreLanes s.view (len
     of = of;
   }
 
+  -- to give q back from there is to give it back from the seat as it was, with those shelves
   pub back_seat : (shelves : List (Option Room)) (found : ℕ) → found ≡ seen s.view (Return (q / 32))
       → returned q found (filled_seat shelves) ≡ record (returned q (seen s.view (Return (q / 32))) s) { shelves = shelves }
   back_seat shelves found word =

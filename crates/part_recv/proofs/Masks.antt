@@ -17,6 +17,7 @@ use Rattle.pair_core.proofs.Cut.{touch_range, range_touch}
 bits_are : (w j : ℕ) → j < 32 → bit w j ≡ bit_at (bits_in w) j
 bits_are w j low = has_bit w (round_in w) (bits_in w) (shut_in w) record { round = refl; shut = refl; bits = refl } j low
 
+-- a word of the round that has the mask is full
 pub mask_full : (g : Shape) → IsShape g → (w k i : ℕ) → i < pieces g → round_in w ≡ k → bit_and (need g i) (bits_in w) ≡ need g i → IsFull g w k i
 unfolding need
 mask_full g v w k i inside round e =
@@ -30,6 +31,7 @@ mask_full g v w k i inside round e =
           bits_are w j (omega arith) ∙ set_one (bits_in w) j (and-in (2 ^ need_count g i - 1) (bits_in w) e j (one_set (2 ^ need_count g i - 1) j (bit_at_ones (need_count g i) j below)));
     }
 
+-- and a full word has the mask
 pub full_mask : (g : Shape) → IsShape g → (w k i : ℕ) → i < pieces g → IsFull g w k i → bit_and (need g i) (bits_in w) ≡ need g i
 unfolding need
 full_mask g v w k i inside full =

@@ -35,9 +35,11 @@ misses_later k q i w old new m =
     let P : ℕ → ℕ → Type 0 = λ j z. IsLater (seen old (Piece (place_in old k) j)) z in
     subst (λ (z : ℕ). P z w) m.here (every_split P (first_piece old.geometry q) m.before (w ∷ []) m.looks.told).1.0
 
+-- a piece that was found not full is one of the pair
 pub misses_inside : (k q i w : ℕ) (old new : View) → IsShape old.geometry → q < old.geometry.recv_parts → Misses k q i w old new → i < pieces old.geometry
 misses_inside k q i w old new v part m = let few = some_pieces old.geometry v q part in let a = few.1 in let b = m.over in omega arith
 
+-- and the seat had not seen it full, where its word isn't of a later round
 pub misses_new : (k q i w : ℕ) (old new : View) → IsShape old.geometry → q < old.geometry.recv_parts → Misses k q i w old new → round_in w ≤ k → IsNew k i old
 misses_new k q i w old new v part m low full =
     m.missing (later_full old.geometry v (seen old (Piece (place_in old k) i)) w k i (misses_inside k q i w old new v part m) (misses_later k q i w old new m) low full)

@@ -11,14 +11,17 @@ use Rattle.pair_rule.specs.Parts.{untaken, fresh_lanes}
 use Rattle.pair_rule.specs.declared.view.View.{View}
 use Rattle.part_recv.specs.Receiving.{returns_stored, takes_stored, all_untaken}
 
+-- stores of return words leave the geometry
 pub returns_geometry : (k n : ℕ) (d : View) → (returns_stored k n d).geometry ≡ d.geometry
 returns_geometry k zero d = refl
 returns_geometry k (suc n) d = returns_geometry k n d
 
+-- the seat's number
 pub returns_number : (k n : ℕ) (d : View) → (returns_stored k n d).number ≡ d.number
 returns_number k zero d = refl
 returns_number k (suc n) d = returns_number k n d
 
+-- and how many watchers are out
 pub returns_watchers : (k n : ℕ) (d : View) → (returns_stored k n d).recv.watchers ≡ d.recv.watchers
 returns_watchers k zero d = refl
 returns_watchers k (suc n) d = returns_watchers k n d
@@ -29,6 +32,7 @@ returns_recv k zero d some = absurd (omega arith)
 returns_recv k (suc n) d some =
     λ i. record { round = k; returns = (let e : n + 1 ≡ suc n = omega arith in e) i; takes = 0; released = 0; watchers = returns_watchers k n d i }
 
+-- after n return words of the next round the next one may be stored
 pub may_return : (k n : ℕ) (d : View) → d.number ≡ 1 → IsRecvIdle d.recv → k ≡ d.recv.round + 1 → k ≤ LAST_ROUND → n < take_words d.geometry → MayMake (returns_stored k n d) (StoreReturn k n)
 may_return k zero d one idle next last low = (one, low, last, inl (refl, idle, next))
 may_return k (suc n) d one idle next last low = (
@@ -38,10 +42,12 @@ may_return k (suc n) d one idle next last low = (
   inr (omega arith, (let e : suc n ≡ n + 1 = omega arith in e), refl),
 )
 
+-- stores of take words leave the geometry
 pub takes_geometry : (n : ℕ) (d : View) → (takes_stored n d).geometry ≡ d.geometry
 takes_geometry zero d = refl
 takes_geometry (suc n) d = takes_geometry n d
 
+-- and the seat's number
 pub takes_number : (n : ℕ) (d : View) → (takes_stored n d).number ≡ d.number
 takes_number zero d = refl
 takes_number (suc n) d = takes_number n d
@@ -59,9 +65,11 @@ opened_recv k n d some =
     let r = returns_recv k (take_words d.geometry) d some in
     takes_recv n (returns_stored k (take_words d.geometry) d) (ap (λ (z : RecvSide). z.takes) r) ∙ ap (λ (z : RecvSide). let y : RecvSide = record z { takes = n } in y) r
 
+-- both leave the geometry
 pub opened_geometry : (k n m : ℕ) (d : View) → (takes_stored n (returns_stored k m d)).geometry ≡ d.geometry
 opened_geometry k n m d = takes_geometry n (returns_stored k m d) ∙ returns_geometry k m d
 
+-- after all return words and n take words the next take word may be stored
 pub may_take : (k n : ℕ) (d : View) → d.number ≡ 1 → n < take_words d.geometry → MayMake (takes_stored n (returns_stored k (take_words d.geometry) d)) (StoreTake k n)
 may_take k n d one low =
     let m : ℕ = take_words d.geometry in
@@ -88,10 +96,12 @@ untaken_join (suc a) b (l ∷ ls) =
 pub lanes_more : (n : ℕ) (ls : List Lane) → fresh_lanes n (untaken 0 (32 * n) ls) ≡ untaken 0 (32 * (n + 1)) ls
 lanes_more n ls = untaken_join (32 * n) 32 ls ∙ ap (λ (z : ℕ). untaken 0 z ls) (let e : 32 * n + 32 ≡ 32 * (n + 1) = omega arith in e)
 
+-- before the first take word no lane has changed
 pub lanes_none : (ls : List Lane) → untaken 0 0 ls ≡ ls
 lanes_none [] = refl
 lanes_none (l ∷ ls) = refl
 
+-- after so many that all lanes have theirs, all are untaken
 pub lanes_all : (n : ℕ) (ls : List Lane) → length ls ≤ n → untaken 0 n ls ≡ all_untaken ls
 lanes_all n [] h = refl
 lanes_all zero (l ∷ ls) h = absurd (omega arith)

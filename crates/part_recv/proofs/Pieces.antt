@@ -10,6 +10,7 @@ use Rattle.part_tables.specs.Parts.{first_received}
 use Rattle.part_tables.proofs.Facts.{in_received, first_received-rises, first_received-le, in_piece}
 use Rattle.part_recv.specs.Seeing.{first_piece, after_piece, AreThePieces}
 
+-- a piece touches the partition exactly where it is one of them
 pub the_pieces : AreThePieces
 the_pieces g q i v part inside =
     let row = piece-row g v in

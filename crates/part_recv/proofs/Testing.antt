@@ -1,4 +1,5 @@
--- What a test of the receive end answers by the flags of the lanes.
+-- What a test of the receive end answers by the flags of the lanes: a search for the first lane with a flag finds none
+-- only where none has it.
 use Rattle.std.proofs.Common.{inl, inr, ◌≡◌, ℕ, zero, suc, ◌+◌, ◌<◌, Bool, true, false, cond, not, List, [], ◌∷◌, length, get_or, Option, Some, None, refl, sym, ap, ◌∙◌, arith, true≢false}
 use Rattle.std.specs.List.{position, position_from}
 use Rattle.std.specs.Prelude.{if◌then◌else◌}
@@ -35,9 +36,11 @@ from_none p i [] none q l e = absurd (some-ne-none l (sym e))
 from_none p i (x ∷ xs) none zero l e = ap p (sym (some-injective x l e)) ∙ (head_none p i x xs none).0
 from_none p i (x ∷ xs) none (suc q) l e = from_none p (i + 1) xs (head_none p i x xs none).1 q l e
 
+-- where a search finds no lane, none passes its test
 pub none_passes : (p : Lane → Bool) (ls : List Lane) → position p ls ≡ None → (q : ℕ) (l : Lane) → get_elem? ls q ≡ some l → p l ≡ false
 none_passes p ls none q l e = from_none p 0 ls (sym (position_from-zero p ls) ∙ none) q l e
 
+-- where it finds none that isn't taken, all are
 pub all_taken : (ls : List Lane) → position (λ (l : Lane). not l.taken) ls ≡ None → (q : ℕ) (l : Lane) → get_elem? ls q ≡ some l → l.taken ≡ true
 all_taken ls none q l e = not_false l.taken (none_passes (λ (z : Lane). not z.taken) ls none q l e)
 
@@ -45,8 +48,10 @@ abbrev answer_of : Bool → Option ℕ → Option ℕ → RecvTest
 answer_of active untaken out = if not active then Idle else option_map_or Untaken untaken (option_map_or Out out Done)
 
 module _ (s : End) (active : is_active s.view ≡ true) (taken : position (λ (l : Lane). not l.taken) s.lanes ≡ None) where
+  -- where all are taken, the answer is the first that is out
   pub test_out : (q : ℕ) → position (λ (l : Lane). l.out) s.lanes ≡ Some q → test_answer s ≡ Out q
   test_out q out = λ i. answer_of (active i) (taken i) (out i)
 
+  -- and where none is, that the round is done
   pub test_done : position (λ (l : Lane). l.out) s.lanes ≡ None → test_answer s ≡ Done
   test_done none = λ i. answer_of (active i) (taken i) (none i)

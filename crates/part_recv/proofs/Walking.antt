@@ -23,6 +23,7 @@ pub looked_is : (e i : ℕ) (ws : List ℕ) (d : View) → looked e i ws d ≡ r
 looked_is e i [] d = refl
 looked_is e i (w ∷ ws) d = looked_is e (suc i) ws (saw (Piece e i) w d)
 
+-- so the geometry stays
 pub looked_geometry : (e i : ℕ) (ws : List ℕ) (d : View) → (looked e i ws d).geometry ≡ d.geometry
 looked_geometry e i ws d = ap (λ (z : View). z.geometry) (looked_is e i ws d)
 
@@ -47,6 +48,7 @@ seen_ahead e i j ws d far =
     ap (λ (z : Shape). get_or (looked e i ws d).seen (number z (Piece e j)) 0) (looked_geometry e i ws d)
     ∙ seen_past (number d.geometry (Piece e j)) e i ws d (λ m low high. λ (same : number d.geometry (Piece e j) ≡ number d.geometry (Piece e m)). omega arith)
 
+-- as many words are seen as before
 pub looked_size : (e i : ℕ) (ws : List ℕ) (d : View) → length (looked e i ws d).seen ≡ length d.seen
 looked_size e i [] d = refl
 looked_size e i (w ∷ ws) d = looked_size e (suc i) ws (saw (Piece e i) w d) ∙ length-set d.seen (number d.geometry (Piece e i)) w
@@ -69,13 +71,21 @@ seen_full k e i (w ∷ ws) d place few size full j low high =
 
 -- a look under way: the seat is as it was but for what it has seen, and the words of the pieces before piece n were found full
 pub record Walked {S : Type 0} (W : S → View → S) (V : S → View) (T : S → TableId) (k e first : ℕ) (from to : S) (n : ℕ) : Type 0 where
+  -- the words that were found
   pub words : List ℕ
+  -- they are those of the pieces from the first up to piece n
   pub count : first + length words ≡ n
+  -- the view has looked at these
   pub view : V to ≡ looked e first words (V from)
+  -- the seat is of the same table
   pub table : T to ≡ T from
+  -- with any view put, it is the seat before with that view
   pub same : (d : View) → W to d ≡ W from d
+  -- once it has looked, it is the seat before with its view
   pub seat : first < n → to ≡ W from (V to)
+  -- each word is the one that was seen before, or a later one
   pub later : Every (λ i w. IsLater (seen (V from) (Piece e i)) w) first words
+  -- and is full in the round
   pub full : AreFull (V from).geometry k first words
 
 module _ {S : Type 0} (W : S → View → S) (V : S → View) (T : S → TableId) (has_view : (s : S) (d : View) → V (W s d) ≡ d) (has_table : (s : S) (d : View) → T (W s d) ≡ T s)
