@@ -87,7 +87,8 @@ abbrev pub IsFaultOf : List ℕ → ScriptFault → Type 0
 -- its first word isn't `world`
 IsFaultOf text (NoWorld n) = HasLine text n × (is_headed (words_at text n) ≡ false)
 -- its first word is `world`, and the words behind it are no world
-IsFaultOf text (BadWorld n) = HasLine text n × (is_headed (words_at text n) ≡ true) × (world_of (drop 1 (words_at text n)) ≡ None)
+IsFaultOf text (BadWorld n) =
+    HasLine text n × (is_headed (words_at text n) ≡ true) × (world_of (drop 1 (words_at text n)) ≡ None)
 -- a line before it is `end`
 IsFaultOf text (AfterEnd n) = HasLine text n × (m : ℕ) × HasLine text m × (m < n) × (is_end (words_at text m) ≡ true)
 -- it calls nothing

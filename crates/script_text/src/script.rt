@@ -202,7 +202,8 @@ fn read_words(
     line: u32,
     words: &[&[u8]],
 ) -> Result<(), ScriptFault>
-    ensures read { OnOk result ((rest : _) → whole_of body.new rest ≡ whole_of body.old (record { number = line; words = texts words.now } ∷ rest)) }
+    ensures read { OnOk result ((rest : _) → whole_of body.new rest ≡
+        whole_of body.old (record { number = line; words = texts words.now } ∷ rest)) }
     ensures fault { IfErr result (IsFault (whole_of body.old) record { number = line; words = texts words.now }) }
 {
     match body {
@@ -235,7 +236,8 @@ fn read_line(
 fn read_lines(alloc: Global, lines: &[&[u8]]) -> Result<Option<Body>, ScriptFault>
     requires { length lines.now ≤ MAX_SCRIPT_BYTES + 1 }
     ensures read { IfOk result (λ body. whole_of body [] ≡ contents_of (sentences_from 1 (texts lines.now))) }
-    ensures fault { IfErr result (λ fault. fault ≢ ScriptFault.NoMemory → contents_of (sentences_from 1 (texts lines.now)) ≡ Err fault) }
+    ensures fault { IfErr result (λ fault. fault ≢ ScriptFault.NoMemory →
+        contents_of (sentences_from 1 (texts lines.now)) ≡ Err fault) }
 {
     let mut body = None;
     for (i, text) in lines.iter().enumerate() {
