@@ -1,4 +1,5 @@
--- The hexadecimal digits of bytes are what encoding the bytes gives.
+-- The hexadecimal digits of bytes are what encoding the bytes gives: the sixteen digits of both are compared, and then
+-- each byte has the same two.
 use Rattle.std.proofs.Common.{◌≡◌, ℕ, ◌<◌, ◌/◌, ◌%◌, ◌==◌, List, [], ◌∷◌, get_or, suc, refl, arith}
 use Rattle.std.proofs.lemmas.Bool.{eqb-true}
 use Rattle.hex.specs.Hex.{encode_lower, encode_with, lower_digits}

@@ -1,4 +1,5 @@
--- What a matched pair keeps through each of its calls.
+-- What a matched pair keeps through each of its calls: its requests go with the sides of the pair, and what is kept of
+-- a partition changes only where it is taken or given back.
 use Rattle.std.proofs.Common.{◌≡◌, ℕ, ◌<◌, nat_lt, Bool, true, false, ◌&&◌, not, Option, Some, None, Result, Ok, Err, List, length, get_or, set, refl, sym, ap, ◌∙◌, subst, arith, tests, inl, inr}
 use Rattle.std.specs.FinSet as parts
 use Rattle.std.specs.List.{All}
@@ -41,11 +42,14 @@ KeepsEach k kept = (q : ℕ) → q < k.shape.recv_parts → IsKeptAt k q (get_or
 
 -- the requests agree with the pair
 pub record AreRequests (s r : Req) (k : Kept) : Type 0 where
+  -- each is matched, and of its side
   pub send : IsRequest SendSide s
   pub recv : IsRequest RecvSide r
+  -- the state of each agrees with its side of the pair
   pub send_agrees : Agrees s.state (send_side k)
   pub recv_agrees : Agrees r.state (recv_side k)
 
+-- a pair, requests that agree with it, and what it keeps of each partition, make a matched pair
 pub holds : (h : Held) (new : Kept) (s r : Req) (kept : List (Option Taken)) (next : Record) → AreRequests s r new → length kept ≡ new.shape.recv_parts → KeepsEach new kept
     → StandsFor new next → IsHeld record { pair = new; send = s; recv = r; kept = kept }
 holds h new s r kept next requests room each known = record {
@@ -87,6 +91,7 @@ held_same h new s r next i requests known shape same =
     (i.each q (inside_old h.pair new q shape inside)))
     known
 
+-- a call that takes and gives back nothing and leaves both sides as they are, as a mark
 pub held_marked : (h : Held) (new : Kept) (next : Record) (i : IsHeld h) → StandsFor new next → new.shape ≡ h.pair.shape → SameSides h.pair new
     → SameTaking i.here next → IsHeld (changed h new h.send h.recv)
 held_marked h new next i known shape sides same = held_same h new h.send h.recv next i (requests_same h new i sides) known shape same
@@ -100,6 +105,7 @@ held_started h new r i requests known shape =
     (i.each q (inside_old h.pair new q shape inside)))
     known
 
+-- a test of the receive
 pub held_tested : (h : Held) (new : Kept) (r : Req) (i : IsHeld h) → AreRequests h.send r new
     → StandsFor new (received_done (test_recv_answer h.pair.shape i.here) i.here) → new.shape ≡ h.pair.shape → IsHeld (changed h new h.send r)
 held_tested h new r i requests known shape =
@@ -128,6 +134,7 @@ takes_each h new q t i m out at room p inside =
           (i.each p (inside_old h.pair new p m.shape inside)))
     ]
 
+-- a partition is taken, and what was taken is kept at its place
 pub held_took : (h : Held) (new : Kept) (q : ℕ) (t : Taken) (i : IsHeld h) → StandsFor new (after_take h.pair.shape i.here q) → Ok t ≡ take_answer h.pair.shape i.here q
     → new.shape ≡ h.pair.shape → SameSides h.pair new → IsOut new t
     → IsHeld record { pair = new; send = h.send; recv = h.recv; kept = set h.kept q (Some t) }
@@ -139,6 +146,7 @@ held_took h new q t i known is shape sides out =
     (length-set h.kept q (Some t) ∙ room_same h new i shape)
     (takes_each h new q t i (moved_here h new (took i.here q) i took_known shape) out at room) took_known
 
+-- a take that is refused leaves what is kept as it is
 pub held_untaken : (h : Held) (new : Kept) (q : ℕ) (cause : PlainTake) (i : IsHeld h) → StandsFor new (after_take h.pair.shape i.here q)
     → Err cause ≡ take_answer h.pair.shape i.here q → new.shape ≡ h.pair.shape → SameSides h.pair new → IsHeld (changed h new h.send h.recv)
 held_untaken h new q cause i known is shape sides =
@@ -160,6 +168,7 @@ pub arrival_at : (h : Held) (q : ℕ) (t : Taken) (i : IsHeld h) → q < length 
 arrival_at h q t i room is = let inside : q < h.pair.shape.recv_parts = (let r = i.room in omega arith) in
     subst (IsKeptAt h.pair q) (sym is) (i.each q inside)
 
+-- what is kept at a place is given back, and the place is emptied
 pub held_gave : (h : Held) (new : Kept) (q : ℕ) (t : Taken) (i : IsHeld h) → StandsFor new (gave_back i.here t.partition) → q < length h.kept → Some t ≡ kept_at h q
     → new.shape ≡ h.pair.shape → SameSides h.pair new → IsHeld record { pair = new; send = h.send; recv = h.recv; kept = set h.kept q None }
 held_gave h new q t i known room is shape sides =
@@ -176,6 +185,7 @@ none_each h q i room is p inside =
       | inr apart ↦ rw (get_or-set_other h.kept q p None None apart) (i.each p inside)
     ]
 
+-- a place at which nothing is kept is emptied, which changes nothing
 pub held_none : (h : Held) (q : ℕ) (i : IsHeld h) → q < length h.kept → None ≡ kept_at h q
     → IsHeld record { pair = h.pair; send = h.send; recv = h.recv; kept = set h.kept q None }
 held_none h q i room is = record {
@@ -193,6 +203,7 @@ held_none h q i room is = record {
 four_true : (a b c d : Bool) → a ≡ true → b ≡ true → c ≡ true → d ≡ false → (a && (b && c && not d)) ≡ true
 four_true a b c d w x y z = grind (arith, tests)
 
+-- where an arrival is kept at a place, each record that the pair stands for says that it is kept
 pub kept_is : (h : Held) (q : ℕ) (t : Taken) (i : IsHeld h) (r : Record) → StandsFor h.pair r → q < length h.kept → Some t ≡ kept_at h q → is_kept h.pair.shape r q ≡ true
 kept_is h q t i r st room is =
     let here = arrival_at h q t i room is in
@@ -204,7 +215,7 @@ kept_is h q t i r st room is =
     (sym (st.taken q inside) ∙ ap (has h.pair.taken) (sym at) ∙ out.was_taken)
     (sym (st.back q inside) ∙ ap (has h.pair.back) (sym at) ∙ out.away)
 
--- states
+-- a matched request is still matched after a start
 pub matched_started : (res : Result ℕ ReqFault) (s : ReqState) → is_matched s ≡ true → is_matched (state_started res s) ≡ true
 matched_started (Ok k) s m = refl
 matched_started (Err f) s m = m
@@ -216,6 +227,7 @@ matched_completed (state.Started k) m = refl
 matched_completed (state.Complete k) m = m
 matched_completed state.Freed m = m
 
+-- a matched request is still matched after a test of the send
 pub matched_sent : (res : Result PlainSendTest Freed) (s : ReqState) → is_matched s ≡ true → is_matched (state_sent res s) ≡ true
 matched_sent (Ok send.Idle) s m = m
 matched_sent (Ok (send.Unmarked p)) s m = m
@@ -223,6 +235,7 @@ matched_sent (Ok (send.Unreleased k)) s m = m
 matched_sent (Ok send.Done) s m = matched_completed s m
 matched_sent (Err f) s m = m
 
+-- a matched request is still matched after a test of the receive
 pub matched_received : (res : Result RecvTest Freed) (s : ReqState) → is_matched s ≡ true → is_matched (state_received res s) ≡ true
 matched_received (Ok recv.Idle) s m = m
 matched_received (Ok (recv.Untaken p)) s m = m
@@ -230,6 +243,7 @@ matched_received (Ok (recv.Out k)) s m = m
 matched_received (Ok recv.Done) s m = matched_completed s m
 matched_received (Err f) s m = m
 
+-- a matched request is still matched after a call that frees it, or refuses to
 pub matched_freed : (s : ReqState) → is_matched s ≡ true → is_matched (state_freed (free_answer s) s) ≡ true
 matched_freed state.Unmatched m = m
 matched_freed state.Inactive m = refl
@@ -237,6 +251,7 @@ matched_freed (state.Started k) m = refl
 matched_freed (state.Complete k) m = refl
 matched_freed state.Freed m = refl
 
+-- a request that agrees with its side still does so after a call that frees it, or refuses to
 pub agrees_freed : (s : ReqState) (side : SideState) → Agrees s side → Agrees (state_freed (free_answer s) s) side
 agrees_freed state.Unmatched side a = tt
 agrees_freed state.Inactive side a = tt
@@ -259,6 +274,7 @@ first_kept : (k : Kept) (q : ℕ) (slot : Option Taken) → StandsFor k first_re
 first_kept k q None st none = first_false k.receiving (has k.taken q) (has k.back q) st.receiving
 first_kept k q (Some t) st none = absurd (cc)
 
+-- the pair that stands for the first record, with inactive requests and nothing kept
 pub held_first : (k : Kept) (s r : Req) (kept : List (Option Taken)) → StandsFor k first_record → length kept ≡ k.shape.recv_parts → All (λ slot. slot ≡ None) kept
     → s ≡ record { side = SendSide; state = state.Inactive } → r ≡ record { side = RecvSide; state = state.Inactive }
     → IsHeld record { pair = k; send = s; recv = r; kept = kept }
@@ -282,6 +298,7 @@ in_use (state.Started k) m f = refl
 in_use (state.Complete k) m f = refl
 in_use state.Freed m f = absurd (cc)
 
+-- where a pair stands for a desk, the request of a side is in the state that the desk has for it
 pub state_is : (h : Held) (d : Desk) (side : Side) → Stands h d → (request_of side h).state ≡ state_of side d
 state_is h d SendSide st = st.send
 state_is h d RecvSide st = st.recv

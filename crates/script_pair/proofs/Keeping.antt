@@ -32,6 +32,7 @@ pub record SameTaking (r next : Record) : Type 0 where
   pub taken : next.taken ≡ r.taken
   pub back : next.back ≡ r.back
 
+-- where nothing changes, nothing is taken or given back
 pub same_refl : (r : Record) → SameTaking r r
 same_refl r = record { receiving = refl; received = refl; taken = refl; back = refl }
 
@@ -47,9 +48,11 @@ on_ok_same : {A E : Type 0} (answer : Result A E) (next r : Record) → SameTaki
 on_ok_same (Ok a) next r same = same
 on_ok_same (Err e) next r same = same_refl r
 
+-- a mark takes and gives back nothing, accepted or refused
 pub pready_same : (g : Shape) (r : Record) (k p : ℕ) (bytes : List ℕ) → SameTaking r (after_pready g r k p bytes)
 pready_same g r k p bytes = on_ok_same (pready_answer g r k p bytes) (marked r p bytes) r record { receiving = refl; received = refl; taken = refl; back = refl }
 
+-- a start of the send takes and gives back nothing, accepted or refused
 pub start_send_same : (r : Record) → SameTaking r (after_start_send r)
 start_send_same r = on_ok_same (start_send_answer r) (started_send r) r record { receiving = refl; received = refl; taken = refl; back = refl }
 
@@ -68,10 +71,12 @@ fold_same : (g : Shape) (k : ℕ) (es : List (ℕ × List ℕ)) (done : Progress
 fold_same g k [] done = same_refl done.after
 fold_same g k (e ∷ es) done = same_then _ _ _ (one_same g k done e) (fold_same g k es (mark_one_more g k done e))
 
+-- the marks of a range or a list, as far as they come, take and give back nothing
 pub progress_same : (o : Option PlainRefusal) (g : Shape) (r : Record) (k : ℕ) (es : List (ℕ × List ℕ)) → SameTaking r (progress_unless o g r k es).after
 progress_same (Some cause) g r k es = same_refl r
 progress_same None g r k es = fold_same g k es (no_progress r)
 
+-- a test of the send takes and gives back nothing
 pub sent_same : (a : PlainSendTest) (r : Record) → SameTaking r (sent_done a r)
 sent_same send.Idle r = same_refl r
 sent_same (send.Unmarked p) r = same_refl r
@@ -99,6 +104,7 @@ out_same old new q t same at out = record {
   away = ap (has new.back) at ∙ same.back ∙ ap (has old.back) (sym at) ∙ out.away;
 }
 
+-- what is kept of a partition by one pair is what another keeps of it, where both keep the same of it
 pub kept_same : (old new : Kept) (q : ℕ) (slot : Option Taken) → SameAt old new q → IsKeptAt old q slot → IsKeptAt new q slot
 kept_same old new q None same is =
     three_same new.receiving (has new.taken q) (has new.back q) old.receiving (has old.taken q) (has old.back q) same.receiving same.taken same.back is
@@ -108,11 +114,13 @@ kept_same old new q (Some t) same is = (out_same old new q t same is.1 is.0, is.
 pub record Moved (old new : Kept) (r next : Record) : Type 0 where
   pub before : StandsFor old r
   pub after : StandsFor new next
+  -- the geometry stays
   pub shape : new.shape ≡ old.shape
 
 inside_new : (old new : Kept) (q : ℕ) → new.shape ≡ old.shape → q < old.shape.recv_parts → q < new.shape.recv_parts
 inside_new old new q shape inside = rw shape inside
 
+-- where nothing is taken or given back, the pair keeps the same of each partition
 pub same_at : (old new : Kept) (r next : Record) (q : ℕ) → Moved old new r next → SameTaking r next → q < old.shape.recv_parts → SameAt old new q
 same_at old new r next q m same inside = record {
   receiving = m.after.receiving ∙ same.receiving ∙ sym m.before.receiving;
@@ -129,6 +137,7 @@ beside s p q apart = parts.contains-insert nat_cmp_total s p q ∙ ap (λ b. b |
 put_in : (s : parts.FinSet nat_cmp) (p : ℕ) → parts.contains (parts.insert s p) p ≡ true
 put_in s p = parts.contains-insert nat_cmp_total s p p ∙ ap (λ b. b || parts.contains s p) (ties p p ∙ eq-eqb p p refl)
 
+-- beside the partition that is taken, the pair keeps the same of each
 pub took_at : (old new : Kept) (r : Record) (p q : ℕ) → Moved old new r (took r p) → q ≢ p → q < old.shape.recv_parts → SameAt old new q
 took_at old new r p q m apart inside = record {
   receiving = m.after.receiving ∙ sym m.before.receiving;
@@ -138,6 +147,7 @@ took_at old new r p q m apart inside = record {
   back = m.after.back q (inside_new old new q m.shape inside) ∙ sym (m.before.back q inside);
 }
 
+-- beside the partition that is given back, the pair keeps the same of each
 pub gave_at : (old new : Kept) (r : Record) (p q : ℕ) → Moved old new r (gave_back r p) → q ≢ p → q < old.shape.recv_parts → SameAt old new q
 gave_at old new r p q m apart inside = record {
   receiving = m.after.receiving ∙ sym m.before.receiving;
@@ -153,9 +163,11 @@ third_true a b c e = grind (arith, tests)
 second_false : (a b c : Bool) → b ≡ false → (a && b && not c) ≡ false
 second_false a b c e = grind (arith, tests)
 
+-- where the first of three tests fails, they don't all hold
 pub first_false : (a b c : Bool) → a ≡ false → (a && b && not c) ≡ false
 first_false a b c e = grind (arith, tests)
 
+-- of a partition that is given back, nothing is kept
 pub gave_here : (old new : Kept) (r : Record) (p : ℕ) → Moved old new r (gave_back r p) → p < old.shape.recv_parts → IsKeptAt new p None
 gave_here old new r p m inside =
     third_true new.receiving (has new.taken p) (has new.back p) (m.after.back p (inside_new old new p m.shape inside) ∙ put_in r.back p)
@@ -184,6 +196,7 @@ idle_start r idle more = rw (idle, more) refl
 moved_along : (old new : Kept) (r next other : Record) → next ≡ other → Moved old new r next → Moved old new r other
 moved_along old new r next other e m = record { before = m.before; after = subst (StandsFor new) e m.after; shape = m.shape }
 
+-- through a start of the receive, accepted or refused, what is kept of each partition stays
 pub start_recv_kept : (old new : Kept) (r : Record) (q : ℕ) (slot : Option Taken) → Moved old new r (after_start_recv r)
     → q < old.shape.recv_parts → IsKeptAt old q slot → IsKeptAt new q slot
 start_recv_kept old new r q slot m inside is =
@@ -221,6 +234,7 @@ done_kept old new r q (Some t) m done inside is =
     let away : has old.back q ≡ false = ap (has old.back) (sym is.1) ∙ is.0.away in
     absurd (cc)
 
+-- through a test of the receive, whatever it answers, what is kept of each partition stays
 pub received_kept : (old new : Kept) (r : Record) (a : RecvTest) (q : ℕ) (slot : Option Taken) → test_recv_answer old.shape r ≡ a → Moved old new r (received_done a r)
     → q < old.shape.recv_parts → IsKeptAt old q slot → IsKeptAt new q slot
 received_kept old new r recv.Idle q slot e m inside is = kept_same old new q slot (same_at old new r r q m (same_refl r) inside) is

@@ -45,7 +45,9 @@ after_start SendSide r = after_start_send r
 after_start RecvSide r = after_start_recv r
 
 abbrev pub started : Side → Desk → Desk
-started s d = with_state s (with_record d (after_start s d.record_)) (state_started (start_told (start_of s d.record_)) (state_of s d))
+started s d =
+    with_state s (with_record d (after_start s d.record_))
+    (state_started (start_told (start_of s d.record_)) (state_of s d))
 
 -- a test of the send, and of the receive
 abbrev pub tested_send : Shape → Desk → Desk

@@ -10,7 +10,8 @@ use Rattle.script_pair.specs.Desk.{Desk}
 use Rattle.script_pair.specs.Texts.{bytes_text}
 use Rattle.script_text.specs.declared.call.Action.TheVariants.{Take}
 
--- what a take that is accepted shows are the bytes that the marks of the receiver's round gave at the partition's places
+-- what a take that is accepted shows are the bytes that the marks of the receiver's round gave at the partition's
+-- places
 abbrev pub TakesShowMarks : Type 0
 TakesShowMarks = (g : Shape) (d : Desk) (q : ℕ) (t : Taken) → take_answer g d.record_ q ≡ Ok t
     → own_answer g RecvSide d (Take q) ≡ bytes_text (bytes_of g (round_of d.record_ d.record_.received) q)

@@ -107,5 +107,5 @@ free_text (Err (free.Active k)) = codes "refused Active"
 -- how far the pair came
 abbrev pub closed_text : PlainClosed → List ℕ
 closed_text c =
-    codes " started " ++ decimal c.send_round ++ codes " " ++ decimal c.recv_round ++ codes " released " ++ decimal c.released
-    ++ codes " pieces " ++ decimal c.pieces_out
+    codes " started " ++ decimal c.send_round ++ codes " " ++ decimal c.recv_round
+    ++ codes " released " ++ decimal c.released ++ codes " pieces " ++ decimal c.pieces_out

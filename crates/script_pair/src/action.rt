@@ -32,7 +32,8 @@ impl MatchedPair {
     fn test(&mut self, alloc: Global, side: Side) -> Result<String, AllocError>
         requires { is_in_use (request_of side self.old).state ≡ true }
         ensures shape { self.new.pair.shape ≡ self.old.pair.shape }
-        ensures tells { Tells self.old self.new result (test_text self.old.pair.shape side) (tested self.old.pair.shape side) }
+        ensures tells { Tells self.old self.new result (test_text self.old.pair.shape side)
+            (tested self.old.pair.shape side) }
     {
         match side {
             Side::SendSide => {
