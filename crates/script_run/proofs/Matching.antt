@@ -382,6 +382,7 @@ calls_matched : (calls : List Call) (st : State) → HasSlots st → IsMatched s
 calls_matched [] st slots h = h
 calls_matched (call ∷ calls) st slots h = calls_matched calls (after_call st call) (call_slots st call slots) (call_matched st call slots h)
 
+-- after any calls of a script its pairs are those of its world, and each request is in the pair that its slot is in
 pub pairs_are_matched : PairsAreMatched
 unfolding pairs_of
 pairs_are_matched world calls =

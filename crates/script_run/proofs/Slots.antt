@@ -1,4 +1,5 @@
--- The slots of names, as requests are added and matched.
+-- The slots of names, as requests are added and matched: the slot of a name is the first place that has it, so a
+-- request that is added behind, or a pair that is written into one, moves no other.
 use Rattle.std.proofs.Common.{◌≡◌, ℕ, zero, suc, ◌+◌, Bool, true, false, cond, if◌then◌else◌, bytes_eq, List, [], ◌∷◌, ◌++◌, length, set, Option, Some, None, refl, sym, ap, ◌∙◌, arith, tests, inl, inr}
 use Rattle.std.specs.List.{position_from}
 use Rattle.std.specs.Prelude.{slice_get}
@@ -54,6 +55,7 @@ set_same q n k [] i r is = absurd (cc)
 set_same q n k (x ∷ rs) zero r is = let e : x ≡ r = cc in rw e refl
 set_same q n k (x ∷ rs) (suc i) r is = ap (λ o. cond (bytes_eq x.name q) (Some k) o) (set_same q n (k + 1) rs i r is)
 
+-- matching a request changes the slot of no name
 pub slot_of-matched_at : (n slot : ℕ) (rs : List Known) (q : List ℕ) → slot_of (matched_at n slot rs) q ≡ slot_of rs q
 slot_of-matched_at n slot rs q =
     elim (slice_get rs slot) as (λ o. slice_get rs slot ≡ o → slot_of (with_pair n slot rs o) q ≡ slot_of rs q) [
@@ -66,6 +68,7 @@ set_long [] i r = refl
 set_long (x ∷ rs) zero r = refl
 set_long (x ∷ rs) (suc i) r = ap suc (set_long rs i r)
 
+-- matching a request leaves as many requests
 pub length-matched_at : (n slot : ℕ) (rs : List Known) → length (matched_at n slot rs) ≡ length rs
 length-matched_at n slot rs =
     elim (slice_get rs slot) as (λ o. length (with_pair n slot rs o) ≡ length rs) [

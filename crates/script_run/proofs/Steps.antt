@@ -1,4 +1,4 @@
--- What a run stands for after a step.
+-- What a run stands for after a step: each part of the run that a call changes goes with the same part of the state.
 use Rattle.std.proofs.Common.{◌≡◌, ◌≢◌, ℕ, ◌+◌, ◌≤◌, Bool, true, false, nat_lt, is_some, if◌then◌else◌, bytes_eq, codes, List, [], ◌∷◌, ◌++◌, length, Option, Some, None, Result, Ok, Err, refl, sym, ◌∙◌, append_assoc, arith}
 use Rattle.std.specs.Option.{option_map_or}
 use Rattle.std.specs.Prelude.{slice_get}
@@ -52,12 +52,14 @@ ok_slot None (Some x) t f n slot is = absurd (cc)
 ok_slot None None true f n slot is = absurd (cc)
 ok_slot None None false f n slot is = cc
 
+-- the slot of an accepted initialisation is the number of those that were accepted before it
 pub slot_is : (w : WorldState) (side : Side) (i : Init) (slot : ℕ) → Ok slot ≡ world_answer w side i → slot ≡ length w.calls
 slot_is w SendSide i slot is = let c = send_call i.from i.to i.tag i.comm i.parts i.bytes in
     ok_slot (number_fault w.ranks c) (size_fault (completed_by w.calls c)) (nat_lt MAX_VOLUME (volume w.calls + total c)) (WorldFull (volume w.calls + total c)) (length w.calls) slot is
 slot_is w RecvSide i slot is = let c = recv_call i.from i.to i.tag i.comm i.parts i.bytes in
     ok_slot (number_fault w.ranks c) (size_fault (completed_by w.calls c)) (nat_lt MAX_VOLUME (volume w.calls + total c)) (WorldFull (volume w.calls + total c)) (length w.calls) slot is
 
+-- an answer of which the test says that it isn't want of memory isn't that
 pub not_no_memory : (a : Result ℕ InitFault) → is_no_memory a ≡ false → a ≢ Err NoMemory
 not_no_memory a differs is = let e : is_no_memory a ≡ true = rw is refl in absurd (cc)
 
@@ -93,11 +95,13 @@ known_slots : (st : State) (o : Option Known) (a : Action) → HasSlots st → H
 known_slots st None a slots = slots
 known_slots st (Some r) a slots = request_slots st r.side r.pair a slots
 
+-- where each accepted initialisation has its request, it's so after a call, too
 pub call_slots : (st : State) (c : Call) → HasSlots st → HasSlots (after_call st c)
 call_slots st (Send i) slots = init_slots st SendSide i slots
 call_slots st (Recv i) slots = init_slots st RecvSide i slots
 call_slots st (Request name a) slots = known_slots st (known_as st name) a slots
 
+-- once a call's answer and its LF are written, and the run stands for the state after it, the run goes on behind it
 pub steps_on : (old new : Run) (front text next : List ℕ) (c : Call) (rest : List Call) (whole : List ℕ) (so_far : GoesOn old front (c ∷ rest) whole)
     → (text ≡ call_text so_far.here c) × StandsFor new (after_call so_far.here c) → next ≡ front ++ text ++ 10 ∷ [] → GoesOn new next rest whole
 steps_on old new front text next c rest whole so_far did is = record {
@@ -142,6 +146,7 @@ pub init_ok : (st : State) (side : Side) (i : Init) (slot : ℕ) (new : Run) →
     → StandsFor new (joined (with_request (with_world st side i (Ok slot)) i.name side)) → (codes "ok" ≡ init_answer_of st side i) × StandsFor new (after_init_of st side i)
 init_ok st side i slot new free is stands = rw (free, ← is) (refl, stands)
 
+-- a number that isn't there is `None`
 pub not_some : (o : Option ℕ) → is_some o ≡ false → o ≡ None
 not_some None no_one = refl
 not_some (Some x) no_one = absurd (cc)

@@ -68,7 +68,8 @@ next_pair st = slice_get (matched_pairs st.world) (length st.pairs)
 
 -- a request more, and the pair that it completed begins
 abbrev pub with_request : State → List ℕ → Side → State
-with_request st name side = record st { requests = st.requests ++ record { name = name; side = side; pair = None } ∷ [] }
+with_request st name side =
+    record st { requests = st.requests ++ record { name = name; side = side; pair = None } ∷ [] }
 
 abbrev pub joined : State → State
 joined st = begun st (next_pair st)

@@ -16,10 +16,12 @@ pub record StandsFor (r : Run) (st : State) : Type 0 where
   pub names : (q : List ℕ) → lookup r.names q ≡ slot_of st.requests q
   pub pairs : AllZip StandsPair r.pairs.items st.pairs
 
--- a step answers as every state says that the run stood for, and then stands for the state after it, unless memory ran out
+-- a step answers as every state says that the run stood for, and then stands for the state after it, unless memory ran
+-- out
 abbrev pub Tells : Run → Run → Result (String Global) AllocError → (State → List ℕ) → (State → State) → Type 0
 Tells old new result text next =
-    (st : State) → StandsFor old st → HasSlots st → IfOk result (λ s. (string_bytes s ≡ text st) × StandsFor new (next st))
+    (st : State) → StandsFor old st → HasSlots st →
+    IfOk result (λ s. (string_bytes s ≡ text st) × StandsFor new (next st))
 
 -- some state that the run stands for, from which the calls that are left write what is missing of the whole text
 pub record GoesOn (r : Run) (front : List ℕ) (rest : List Call) (whole : List ℕ) : Type 0 where

@@ -7,7 +7,8 @@ use Rattle.part_geometry.specs.Shape.{Shape}
 use Rattle.script_pair.specs.Desk.{Desk}
 use Rattle.script_text.specs.Script.{World}
 
--- a request: its name, its side, and the number of its pair once it is matched. Its slot is its place among the requests
+-- a request: its name, its side, and the number of its pair once it is matched. Its slot is its place among the
+-- requests
 pub record Known : Type 0 where
   pub name : List ℕ
   pub side : Side
@@ -20,7 +21,8 @@ pub record Pair : Type 0 where
   pub shape : Shape
   pub desk : Desk
 
--- the accepted initialisations, their requests in the same order, and the pairs in the order in which they were completed
+-- the accepted initialisations, their requests in the same order, and the pairs in the order in which they were
+-- completed
 pub record State : Type 0 where
   pub world : WorldState
   pub requests : List Known

@@ -31,7 +31,8 @@ impl<'a> Names<'a> {
 
     /// One name more, which none has yet.
     pub(crate) fn add(&mut self, name: &'a [u8], slot: u32) -> Result<(), AllocError>
-        ensures { OnOk result ((q : _) → lookup self.new q ≡ (if bytes_eq name.now q then Some slot else lookup self.old q)) }
+        ensures { OnOk result ((q : _) →
+            lookup self.new q ≡ (if bytes_eq name.now q then Some slot else lookup self.old q)) }
     {
         self.slots.insert(name, slot)?;
         Ok(())

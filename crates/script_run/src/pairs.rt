@@ -47,7 +47,8 @@ impl<'a> NamedPair<'a> {
 
     /// What an action on one of its requests answers.
     fn answer(&mut self, alloc: Global, side: Side, action: &Action) -> Result<String, AllocError>
-        ensures { (p : _) → StandsPair self.old p → IfOk result (λ text. string_bytes text ≡ answer p.shape side p.desk action.now)
+        ensures { (p : _) → StandsPair self.old p →
+            IfOk result (λ text. string_bytes text ≡ answer p.shape side p.desk action.now)
             × StandsPair self.new (record p { desk = after p.shape side p.desk action.now }) }
     {
         self.pair.answer(alloc, side, action)
@@ -73,7 +74,8 @@ pub(crate) fn answer_at(
     side: Side,
     action: &Action,
 ) -> Result<String, AllocError>
-    ensures { (ps : _) → AllZip StandsPair pairs.old.items ps → IfOk result (λ text. string_bytes text ≡ pair_text (slice_get ps n) side action.now)
+    ensures { (ps : _) → AllZip StandsPair pairs.old.items ps →
+        IfOk result (λ text. string_bytes text ≡ pair_text (slice_get ps n) side action.now)
         × AllZip StandsPair pairs.new.items (after_pair ps n (slice_get ps n) side action.now) }
 {
     let index = n as usize;

@@ -18,7 +18,8 @@ fn tell_pairs(
     pairs: Vec<NamedPair<'_>>,
     text: &mut Vec<u8>,
 ) -> Result<(), AllocError>
-    ensures { (ps : _) → AllZip StandsPair pairs.entry.items ps → OnOk result (text.new.items ≡ text.old.items ++ flat_map pair_line ps) }
+    ensures { (ps : _) → AllZip StandsPair pairs.entry.items ps →
+        OnOk result (text.new.items ≡ text.old.items ++ flat_map pair_line ps) }
 {
     for pair in pairs {
         pair.tell(alloc, text)?;

@@ -54,7 +54,8 @@ fn is_no_memory(answer: &Result<u32, InitFault>) -> bool
 
 /// Asks the world for an initialisation, where want of memory is no answer.
 fn asked(world: &mut World, side: Side, init: &Init) -> Result<Result<u32, InitFault>, AllocError>
-    ensures { IfOk result (λ answer. (answer ≡ world_answer world.old side init.now) × (world.new ≡ after_world world.old side init.now answer)) }
+    ensures { IfOk result (λ answer. (answer ≡ world_answer world.old side init.now)
+        × (world.new ≡ after_world world.old side init.now answer)) }
 {
     let answer = ask(world, side, init);
     if is_no_memory(&answer) {
@@ -65,7 +66,12 @@ fn asked(world: &mut World, side: Side, init: &Init) -> Result<Result<u32, InitF
 
 /// The world of these limits.
 fn new_world(alloc: Global, limits: &Limits) -> World
-    ensures { result ≡ record { ranks = limits.now.ranks; grain = limits.now.grain; depth = limits.now.depth; calls = [] } }
+    ensures { result ≡ record {
+      ranks = limits.now.ranks;
+      grain = limits.now.grain;
+      depth = limits.now.depth;
+      calls = [];
+    } }
 {
     let made = World::new(alloc, limits.ranks(), limits.grain(), limits.depth());
     let Ok(world) = made else {
@@ -129,7 +135,8 @@ impl<'a> Run<'a> {
         side: Side,
         init: &'a Init,
     ) -> Result<String, AllocError>
-        ensures { Tells self.old self.new result (λ st. init_answer_of st side init.now) (λ st. after_init_of st side init.now) }
+        ensures { Tells self.old self.new result (λ st. init_answer_of st side init.now)
+            (λ st. after_init_of st side init.now) }
     {
         let name = init.name.as_slice();
         if self.names.slot(name).is_some() {
@@ -146,7 +153,8 @@ impl<'a> Run<'a> {
 
     /// What an action on the request of a name answers.
     fn act(&mut self, alloc: Global, name: &'a [u8], action: &Action) -> Result<String, AllocError>
-        ensures { Tells self.old self.new result (λ st. known_text st (known_as st name.now) action.now) (λ st. after_known st (known_as st name.now) action.now) }
+        ensures { Tells self.old self.new result (λ st. known_text st (known_as st name.now) action.now)
+            (λ st. after_known st (known_as st name.now) action.now) }
     {
         let Some(slot) = self.names.slot(name) else {
             return String::from_str(alloc, "refused NoRequest");
