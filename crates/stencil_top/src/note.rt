@@ -221,6 +221,7 @@ pub fn tell<N: Sink>(note: &mut N, cause: Note) -> Status
     ensures later { N.faults note.old ≤ N.faults note.new }
 {
     let line = line_of(cause);
+    // what the write answers is dropped: a fault of the sink changes no status
     let _ = note.write(line.as_str().as_bytes());
     cause.status()
 }
