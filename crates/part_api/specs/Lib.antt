@@ -1,2 +1,4 @@
 pub mod Req
 pub mod States
+pub mod Ruled
+pub mod Records

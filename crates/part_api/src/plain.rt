@@ -19,7 +19,8 @@ pub fn start_send_plain(req: &mut Request, pair: &mut PlainPair) -> Result<u32, 
     ensures by_state { result ≡ start_by_state req.old.state }
     ensures state { req.new ≡ record req.old { state = state_started result req.old.state } }
     ensures agrees { Agrees req.new.state (send_side pair.new) }
-    ensures call { is_in_use req.old.state ≡ true → Follows pair.old pair.new result (λ r. start_told (start_send_answer r)) after_start_send }
+    ensures call { is_in_use req.old.state ≡ true → Follows pair.old pair.new result
+        (λ r. start_told (start_send_answer r)) after_start_send }
     ensures unused { is_in_use req.old.state ≡ false → pair.new ≡ pair.old }
     ensures unchanged { IsErr result → pair.new ≡ pair.old }
     ensures shape { pair.new.shape ≡ pair.old.shape }
@@ -36,7 +37,8 @@ pub fn start_recv_plain(req: &mut Request, pair: &mut PlainPair) -> Result<u32, 
     ensures by_state { result ≡ start_by_state req.old.state }
     ensures state { req.new ≡ record req.old { state = state_started result req.old.state } }
     ensures agrees { Agrees req.new.state (recv_side pair.new) }
-    ensures call { is_in_use req.old.state ≡ true → Follows pair.old pair.new result (λ r. start_told (start_recv_answer r)) after_start_recv }
+    ensures call { is_in_use req.old.state ≡ true → Follows pair.old pair.new result
+        (λ r. start_told (start_recv_answer r)) after_start_recv }
     ensures unused { is_in_use req.old.state ≡ false → pair.new ≡ pair.old }
     ensures unchanged { IsErr result → pair.new ≡ pair.old }
     ensures shape { pair.new.shape ≡ pair.old.shape }

@@ -94,6 +94,7 @@ impl<C: Content> SendEnd<C> {
     pub fn marker(&mut self, pair: &Pair<C>) -> Marker<C>
         requires pair { IsOf self.old.table self.old.view pair.now }
         requires few { self.old.view.send.markers < 2 ^ 32 - 1 }
+        ensures pair { IsOf self.new.table self.new.view pair.now }
         ensures end { self.new ≡ record self.old { view = with_marker self.old.view } }
         ensures marker { result ≡ record { table = self.old.table; view = marker self.old.view } }
     {
@@ -110,6 +111,7 @@ impl<C: Content> SendEnd<C> {
     pub fn rejoin(&mut self, pair: &Pair<C>, marker: Marker<C>)
         requires pair { IsOf self.old.table self.old.view pair.now }
         requires same { marker.table ≡ self.old.table }
+        ensures pair { IsOf self.new.table self.new.view pair.now }
         ensures end { (w : ℕ) × IsLater (seen (with_marker_back self.old.view marker.view) (Claim 0)) w
             × (self.new ≡ record self.old { view = saw (Claim 0) w (with_marker_back self.old.view marker.view) }) }
         ensures opened { is_active self.new.view ≡ true → AreOpen self.new.view }
@@ -127,7 +129,8 @@ impl<C: Content> SendEnd<C> {
     pub fn learn(&mut self, pair: &Pair<C>, note: Note<C>)
         requires pair { IsOf self.old.table self.old.view pair.now }
         requires same { note.table ≡ self.old.table }
-        ensures { (w : ℕ) × IsLater (seen (told self.old.view note.view) (Claim 0)) w
+        ensures pair { IsOf self.new.table self.new.view pair.now }
+        ensures told { (w : ℕ) × IsLater (seen (told self.old.view note.view) (Claim 0)) w
             × (self.new ≡ record self.old { view = saw (Claim 0) w (told self.old.view note.view) }) }
     {
         // The word found is in the end's view, which contracts alone see.
@@ -137,6 +140,7 @@ impl<C: Content> SendEnd<C> {
     /// A note of what the end has seen, for another seat of the pair to learn. It may be dropped.
     pub fn note(&mut self, pair: &Pair<C>) -> Note<C>
         requires pair { IsOf self.old.table self.old.view pair.now }
+        ensures pair { IsOf self.new.table self.new.view pair.now }
         ensures end { self.new ≡ self.old }
         ensures note { result ≡ record { table = self.old.table; view = note self.old.view } }
     {

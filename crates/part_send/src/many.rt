@@ -42,6 +42,7 @@ impl<C: Content> Marker<C> {
         requires bytes { low ≤ high → high < self.old.view.geometry.send_parts
             → length bytes.now ≡ (high + 1 - low) * self.old.view.geometry.send_bytes
             → MayStandAll C.may pair.now.key.tag self.old.view.geometry round (range_parts low high) bytes.now }
+        ensures pair { IsOf self.new.table self.new.view pair.now }
         ensures table { self.new.table ≡ self.old.table }
         ensures range { (high < low) ⊎ (self.old.view.geometry.send_parts ≤ high)
             → (result ≡ Err record { at = 0; cause = ReadyRefusal.BadRange }) × (self.new ≡ self.old) }
@@ -82,6 +83,7 @@ impl<C: Content> Marker<C> {
         requires few { length parts.now ≤ 2 ^ 20 }
         requires bytes { length bytes.now ≡ length parts.now * self.old.view.geometry.send_bytes
             → MayStandAll C.may pair.now.key.tag self.old.view.geometry round parts.now bytes.now }
+        ensures pair { IsOf self.new.table self.new.view pair.now }
         ensures table { self.new.table ≡ self.old.table }
         ensures length { length bytes.now ≢ length parts.now * self.old.view.geometry.send_bytes
             → (result ≡ Err record { at = 0; cause = ReadyRefusal.BadLength }) × (self.new ≡ self.old) }
@@ -113,6 +115,7 @@ impl<C: Content> Marker<C> {
         requires bytes { p < self.old.view.geometry.send_parts
             → MayStand C.may pair.now.key.tag marks.old.round (p * self.old.view.geometry.send_bytes)
             (part_of self.old.view.geometry bytes.now marks.old.count) }
+        ensures pair { IsOf self.new.table self.new.view pair.now }
         ensures table { self.new.table ≡ self.old.table }
         ensures few { AreFew marks.new }
         ensures goes_on { Goes self.old.view self.new.view marks.old marks.new

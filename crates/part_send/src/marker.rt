@@ -42,7 +42,8 @@ impl<C: Content> Marker<C> {
     pub fn learn(&mut self, pair: &Pair<C>, note: Note<C>)
         requires pair { IsOf self.old.table self.old.view pair.now }
         requires same { note.table ≡ self.old.table }
-        ensures { (w : ℕ) × IsLater (seen (told self.old.view note.view) (Claim 0)) w
+        ensures pair { IsOf self.new.table self.new.view pair.now }
+        ensures told { (w : ℕ) × IsLater (seen (told self.old.view note.view) (Claim 0)) w
             × (self.new ≡ record self.old { view = saw (Claim 0) w (told self.old.view note.view) }) }
     {
         // The word found is in the marker's view, which contracts alone see.
@@ -52,6 +53,7 @@ impl<C: Content> Marker<C> {
     /// A note of what the marker has seen, for another seat of the pair to learn. It may be dropped.
     pub fn note(&mut self, pair: &Pair<C>) -> Note<C>
         requires pair { IsOf self.old.table self.old.view pair.now }
+        ensures pair { IsOf self.new.table self.new.view pair.now }
         ensures marker { self.new ≡ self.old }
         ensures note { result ≡ record { table = self.old.table; view = note self.old.view } }
     {

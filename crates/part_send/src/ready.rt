@@ -45,6 +45,7 @@ impl<C: Content> Marker<C> {
         requires pair { IsOf self.old.table self.old.view pair.now }
         requires bytes { IsRight self.old.view.geometry partition bytes.now
             → MayStand C.may pair.now.key.tag round (partition * self.old.view.geometry.send_bytes) bytes.now }
+        ensures pair { IsOf self.new.table self.new.view pair.now }
         ensures table { self.new.table ≡ self.old.table }
         ensures answer { (n : ℕ) × (n ≤ 33) × Tells self.old.view self.new.view round partition bytes.now n result }
     {
@@ -63,6 +64,7 @@ impl<C: Content> Marker<C> {
         requires pair { IsOf self.old.table self.old.view pair.now }
         requires bytes { IsRight self.old.view.geometry partition bytes.now
             → MayStand C.may pair.now.key.tag round (partition * self.old.view.geometry.send_bytes) bytes.now }
+        ensures pair { IsOf self.new.table self.new.view pair.now }
         ensures table { self.new.table ≡ self.old.table }
         ensures answer { (n : ℕ) × (n ≤ 33) × Tells self.old.view self.new.view round partition bytes.now n result }
     {
@@ -83,6 +85,7 @@ impl<C: Content> Marker<C> {
         requires pair { IsOf self.old.table self.old.view pair.now }
         requires bytes { IsRight self.old.view.geometry partition bytes.now
             → MayStand C.may pair.now.key.tag round (partition * self.old.view.geometry.send_bytes) bytes.now }
+        ensures pair { IsOf self.new.table self.new.view pair.now }
         ensures table { self.new.table ≡ self.old.table }
         ensures answer { Tells self.old.view self.new.view round partition bytes.now (steps.new - steps.old) result }
         ensures steps { (steps.old ≤ steps.new) × (steps.new ≤ steps.old + 33) }

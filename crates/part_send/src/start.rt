@@ -76,6 +76,7 @@ impl<C: Content> SendEnd<C> {
     /// nothing changes then.
     pub fn start(&mut self, pair: &Pair<C>) -> Result<u32, StartFault>
         requires pair { IsOf self.old.table self.old.view pair.now }
+        ensures pair { IsOf self.new.table self.new.view pair.now }
         ensures answer { result ≡ start_answer self.old.view }
         ensures end { self.new ≡ record self.old { view = after_start self.old.view result } }
         ensures side { IfOk result (λ k. (is_active self.new.view ≡ true) × (self.new.view.send.round ≡ k)

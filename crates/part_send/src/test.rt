@@ -129,6 +129,7 @@ impl<C: Content> SendEnd<C> {
     /// seen changes.
     pub fn test(&mut self, pair: &Pair<C>) -> SendTest
         requires pair { IsOf self.old.table self.old.view pair.now }
+        ensures pair { IsOf self.new.table self.new.view pair.now }
         ensures table { self.new.table ≡ self.old.table }
         ensures answer { TestTells self.old.view self.new.view result }
     {
