@@ -66,9 +66,10 @@ impl<C: Content> Pair<C> {
     pub fn store_claim(&self, seat: &mut SendSeat<C>, round: u32, word: u32)
         requires pair { IsOf seat.old.table seat.old.view self.now }
         requires allowed { MayMake seat.old.view (StoreClaim round word) }
-        requires limit { round ≤ LAST_ROUND }
         ensures step { seat.new ≡ record seat.old { view = stored_claim word seat.old.view } }
     {
+        // What the seat says of its round, for the proof.
+        let _round = seat.round();
         self.store_claim_as::<Brand>(&mut seat.seat, round, word);
     }
 

@@ -1,8 +1,6 @@
 //! The records of pairs that were closed.
 
-ghost use Rattle.std.specs.Prelude.{◌≡◌, ◌+◌, ◌≤◌, [], ◌∷◌, ◌++◌, length, OnOk, MatchOption};
-ghost use mathlib.Core.Option.{none, some};
-ghost use lib.ListN.{get_elem?};
+ghost use Rattle.std.specs.Prelude.{◌≡◌, ◌+◌, ◌≤◌, [], ◌∷◌, ◌++◌, length, IsItemAt, OnOk};
 
 use pair_rule::Closed;
 use std::alloc::{AllocError, Global};
@@ -60,8 +58,7 @@ impl Census {
 
     /// Record `i`, counted from 0, where there are so many.
     pub fn get(&self, i: usize) -> Option<&Closed>
-        ensures { MatchOption result (get_elem? self.now.records i ≡ none)
-            (λ closed. get_elem? self.now.records i ≡ some closed.now) }
+        ensures { IsItemAt self.now.records i result }
     {
         self.records.get(i)
     }

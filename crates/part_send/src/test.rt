@@ -1,11 +1,12 @@
 //! The test of a round.
 
-ghost use Rattle.std.specs.Prelude.{◌≡◌, ◌<◌, ◌≤◌, ◌%◌, true, MatchOption};
+ghost use Rattle.std.specs.Prelude.{◌≡◌, ◌<◌, ◌≤◌, ◌%◌, true, false, MatchOption};
 ghost use Rattle.part_geometry.specs.Pieces.{pieces};
 ghost use Rattle.pair_core.specs.Names.{claim_words};
 ghost use Rattle.pair_core.specs.Moves.{IsSendActive, MayShut};
 ghost use Rattle.pair_rule.specs.Views.{seen};
 ghost use Rattle.pair_rule.specs.Seats.{IsOf};
+ghost use Rattle.part_send.specs.Ends.{is_active};
 ghost use Rattle.part_send.specs.Looking.{OnlyLooked};
 ghost use Rattle.part_send.specs.Testing.{AreClaimed, AreFull, Stops, TestTells};
 
@@ -132,6 +133,7 @@ impl<C: Content> SendEnd<C> {
         ensures pair { IsOf self.new.table self.new.view pair.now }
         ensures table { self.new.table ≡ self.old.table }
         ensures answer { TestTells self.old.view self.new.view result }
+        ensures idle { result ≡ SendTest.Done → is_active self.new.view ≡ false }
     {
         if !self.active {
             return SendTest::Idle;
