@@ -1,6 +1,7 @@
 //! The records of pairs that were closed.
 
-ghost use Rattle.std.specs.Prelude.{◌≡◌, ◌+◌, ◌≤◌, [], ◌∷◌, ◌++◌, length, IsItemAt, OnOk};
+ghost use Rattle.std.specs.Prelude.{◌≡◌, ◌+◌, ◌≤◌, [], ◌∷◌, ◌++◌, length, OnOk};
+ghost use Rattle.std.specs.Slice.{IsItemAt};
 
 use pair_rule::Closed;
 use std::alloc::{AllocError, Global};
