@@ -1,17 +1,11 @@
 -- What the parts of a number text say of it: the sign, the value of the digits, and whether it is within a limit.
 use Rattle.std.proofs.Common.{◌≡◌, ℕ, zero, suc, ◌+◌, ◌*◌, ◌^◌, ◌<◌, ◌≤◌, Bool, true, false, ℤ, pos, neg_ℤ, ◌-ℤ◌, unsigned_abs, List, Option, Some, None, Ok, Err, refl, ap, arith, lit<, to_z, of_z, w64}
-use Rattle.std.proofs.Math.Nat.{pow-le-pow_right}
 use Rattle.std.proofs.lemmas.Bool.Decides.{nat_tests}
 use Rattle.std.proofs.lemmas.Int.{ints, to_z-of_z, fits_signed_from_abs}
 use Rattle.std.specs.Prelude.{if◌then◌else◌, nat_le}
 use Rattle.grid_text.specs.declared.number.NumberFault.TheVariants.{OutOfRange}
-use Rattle.grid_text.specs.Numbers.{sign_and_digits, signed_of, unsigned_of, with_sign, within}
-
--- a value of few digits leaves room for one more
-pub room : (n i : ℕ) → n < 10 ^ i → i < 19 → n * 10 + 9 < 2 ^ 64
-room n i small few =
-    let most : 10 ^ i ≤ 10 ^ 18 = pow-le-pow_right (lit< tt) {j = 18} (omega arith) in
-    omega arith
+use Rattle.text_words.specs.Numbers.{unsigned_of}
+use Rattle.grid_text.specs.Numbers.{sign_and_digits, signed_of, with_sign, within}
 
 -- where the digits of a text have a value, the text has it with its sign
 pub signed-found : (text digits : List ℕ) (negative : Bool) (size : ℕ) → negative ≡ (sign_and_digits text).0 → digits ≡ (sign_and_digits text).1

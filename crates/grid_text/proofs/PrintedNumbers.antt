@@ -11,7 +11,8 @@ use Rattle.std.proofs.lemmas.Fmt.{decimal_digit, decimal_is_IsNumeral, decimal_s
 use Rattle.std.proofs.lemmas.List.{reverse-append, reverse-reverse}
 use Rattle.csv.specs.Writing.{default_writer, needs_byte}
 use Rattle.stencil_def.specs.Limits.{IsValue}
-use Rattle.grid_text.specs.Numbers.{bare, from_first, sign_and_digits, signed_of, unsigned_of, within}
+use Rattle.text_words.specs.Numbers.{unsigned_of}
+use Rattle.grid_text.specs.Numbers.{bare, from_first, sign_and_digits, signed_of, within}
 
 -- a decimal digit
 digit-byte : (c : ℕ) → digit_value c < 10 → (48 ≤ c) × (c ≤ 57)

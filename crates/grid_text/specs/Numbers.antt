@@ -1,19 +1,9 @@
 -- Number texts.
-use Rattle.std.specs.Prelude.{ℕ, ◌==◌, Bool, true, false, ◌&&◌, nat_le, if◌then◌else◌, ℤ, pos, neg_ℤ, unsigned_abs}
-use Rattle.std.specs.Prelude.{List, [], ◌∷◌, length, reverse, Option, Some, None, option_map, Result, Ok, Err}
-use Rattle.std.specs.Char.{is_ascii_digit}
-use Rattle.std.specs.List.{list_all}
-use Rattle.std.specs.Str.Parse.{digits_value}
+use Rattle.std.specs.Prelude.{ℕ, ◌==◌, Bool, true, false, nat_le, if◌then◌else◌, ℤ, pos, neg_ℤ, unsigned_abs}
+use Rattle.std.specs.Prelude.{List, [], ◌∷◌, reverse, Option, Some, None, option_map, Result, Ok, Err}
+use Rattle.text_words.specs.Numbers.{unsigned_of}
 use Rattle.grid_text.specs.declared.number.NumberFault.{NumberFault}
 use Rattle.grid_text.specs.declared.number.NumberFault.TheVariants.{BadForm, OutOfRange}
-
--- 1 to 19 decimal digits
-abbrev pub is_unsigned : List ℕ → Bool
-is_unsigned text = nat_le 1 (length text) && nat_le (length text) 19 && list_all is_ascii_digit text
-
--- their value
-unfoldable pub unsigned_of : List ℕ → Option ℕ
-unsigned_of text = if is_unsigned text then Some (digits_value 10 text) else None
 
 -- whether a text has a `-` at its front, and what stands behind it
 abbrev pub sign_and_digits : List ℕ → Bool × List ℕ

@@ -12,7 +12,7 @@ mod summary;
 
 pub use fault::TextFault;
 pub use make::make_grid;
-pub use number::{NumberFault, signed_within, unsigned};
+pub use number::{NumberFault, signed_within};
 pub use print::print_grid;
 pub use read::{read_grid, read_weights};
 pub use summary::print_summary;

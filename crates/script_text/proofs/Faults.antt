@@ -2,7 +2,7 @@
 use Rattle.std.proofs.Common.{◌≡◌, ◌≢◌, ℕ, suc, ◌+◌, ◌-◌, ◌<◌, ◌≤◌, true, false, List, [], ◌∷◌, length, drop, get_or, Some, None, Result, Ok, Err, bytes_eq, codes, if◌then◌else◌, refl, sym, ◌∙◌, subst, inl, inr, arith, tests}
 use Rattle.std.proofs.lemmas.Bool.{cases_eq}
 use Rattle.std.specs.Str.Lines.{strip_carriage_return}
-use Rattle.script_text.specs.Lines.{parts_of, words_of, is_skipped, sentences_from, HasLine}
+use Rattle.text_words.specs.Lines.{parts_of, words_of, is_skipped, sentences_from, HasLine}
 use Rattle.script_text.specs.Calls.{call_of}
 use Rattle.script_text.specs.Script.{World, world_of, is_end, is_headed, after_end, with_call, calls_of, with_world, first_of, contents_of, script_of, IsFaultOf}
 use Rattle.script_text.specs.declared.call.Call.{Call}

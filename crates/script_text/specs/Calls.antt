@@ -1,6 +1,7 @@
 -- What the words of a line call.
 use Rattle.std.specs.Prelude.{ℕ, bytes_eq, codes, if◌then◌else◌, List, [], ◌∷◌, Option, Some, None}
-use Rattle.script_text.specs.Words.{◌>>=◌, number_of, name_of, bytes_of, numbers_of}
+use Rattle.script_text.specs.Words.{◌>>=◌, name_of, bytes_of, numbers_of}
+use Rattle.text_words.specs.Numbers.{number_of}
 use Rattle.script_text.specs.declared.call.Init.{Init}
 use Rattle.script_text.specs.declared.call.Call.{Call}
 use Rattle.script_text.specs.declared.call.Call.TheVariants.{Send, Recv, Request}

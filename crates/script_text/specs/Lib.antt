@@ -1,5 +1,4 @@
 pub mod Words
-pub mod Lines
 pub mod Calls
 pub mod Script
 pub mod Reading

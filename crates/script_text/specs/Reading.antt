@@ -1,6 +1,6 @@
 -- What the lines that are left make of what was read so far.
 use Rattle.std.specs.Prelude.{◌≡◌, ◌≢◌, ℕ, ◌+◌, Bool, List, ◌∷◌, ◌++◌, Option, Some, None, Result, Ok, Err, if◌then◌else◌}
-use Rattle.script_text.specs.Lines.{Sentence, sentences_from}
+use Rattle.text_words.specs.Lines.{Sentence, sentences_from}
 use Rattle.script_text.specs.Script.{World, Contents, after_end, calls_of, contents_of}
 use Rattle.script_text.specs.declared.call.Call.{Call}
 use Rattle.script_text.specs.declared.fault.ScriptFault.{ScriptFault}

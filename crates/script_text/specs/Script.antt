@@ -1,8 +1,9 @@
 -- What a text says as a whole: a script, or the first fault by lines.
 use Rattle.std.specs.Prelude.{◌≡◌, ℕ, ◌<◌, Bool, true, false, ◌&&◌, bytes_eq, codes, if◌then◌else◌, List, [], ◌∷◌, drop, Option, Some, None, Result, Ok, Err}
 use Rattle.part_geometry.specs.declared.TheConstants.{MAX_GRAIN, MAX_DEPTH, MAX_RANKS}
-use Rattle.script_text.specs.Words.{◌>>=◌, when, is_within, number_of}
-use Rattle.script_text.specs.Lines.{Sentence, sentences_of, words_at, HasLine}
+use Rattle.script_text.specs.Words.{◌>>=◌, when, is_within}
+use Rattle.text_words.specs.Numbers.{number_of}
+use Rattle.text_words.specs.Lines.{Sentence, sentences_of, words_at, HasLine}
 use Rattle.script_text.specs.Calls.{call_of}
 use Rattle.script_text.specs.declared.call.Call.{Call}
 use Rattle.script_text.specs.declared.fault.ScriptFault.{ScriptFault}

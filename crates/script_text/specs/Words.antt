@@ -1,6 +1,7 @@
--- The words of a script: numbers, names, lists of partitions and bytes.
+-- The words of a script: names, lists of partitions and bytes.
 use Rattle.std.specs.Prelude.{ℕ, ◌+◌, ◌-◌, ◌*◌, Bool, ◌&&◌, ◌||◌, ◌==◌, nat_le, bytes_eq, codes, if◌then◌else◌, List, [], ◌∷◌, length, Option, Some, None, option_and_then}
 use Rattle.std.specs.List.{list_all, slice_split}
+use Rattle.text_words.specs.Numbers.{number_of}
 
 -- the second step, where the first gives a value
 infixl 10 ◌>>=◌
@@ -18,21 +19,6 @@ is_within low high n = nat_le low n && nat_le n high
 -- `0` to `9`
 abbrev pub is_digit : ℕ → Bool
 is_digit byte = is_within 48 57 byte
-
--- the value of the decimal digits, where the digits before them have the value n
-abbrev pub digits_after : ℕ → List ℕ → Option ℕ
-digits_after n [] = Some n
-digits_after n (byte ∷ rest) = if is_digit byte then digits_after (10 * n + (byte - 48)) rest else None
-
--- the value, where the word has 1 to 19 bytes
-abbrev pub decimal_of : List ℕ → Option ℕ
-decimal_of word = if is_within 1 19 (length word) then digits_after 0 word else None
-
--- a number: 1 to 19 decimal digits, with a value of at most 4,294,967,295
-abbrev pub number_of : List ℕ → Option ℕ
-number_of word = do
-  n ← decimal_of word
-  when (nat_le n 4294967295) n
 
 -- `A` to `Z`, `a` to `z`, `0` to `9` or `_`
 abbrev pub is_name_byte : ℕ → Bool

@@ -4,7 +4,6 @@
 
 mod call;
 mod fault;
-mod lines;
 mod reading;
 mod script;
 mod words;

@@ -1,12 +1,12 @@
 //! The words of a line, read.
 
 ghost use Rattle.std.specs.Prelude.{◌≡◌, codes, bytes_eq, IfOk, IfSome, option_map};
-ghost use Rattle.script_text.specs.Lines.{texts};
+ghost use Rattle.text_words.specs.Lines.{texts};
 ghost use Rattle.script_text.specs.Calls.{init_of, send_of, recv_of, named_of, start_of, test_of, free_of, placed_of, arrived_of, take_of, back_of, mark_of, ready_of, range_mark_of, range_of, list_mark_of, list_of, request_call_of, mark_call_of, call_of};
 
 use crate::call::{Action, Bytes, Call, Init, Name, Parts};
-use crate::words::number;
 use std::alloc::{AllocError, Global};
+use text_words::number;
 
 /// The words behind `send` and `recv`.
 fn init(words: &[&[u8]]) -> Option<Init>

@@ -2,18 +2,17 @@
 
 ghost use Rattle.std.specs.Prelude.{◌≡◌, ◌≢◌, ◌+◌, ◌≤◌, true, [], ◌∷◌, length, IfOk, IfErr, OnOk};
 ghost use Rattle.script_text.specs.declared.TheConstants.{MAX_SCRIPT_BYTES};
-ghost use Rattle.script_text.specs.Lines.{texts, sentences_from};
+ghost use Rattle.text_words.specs.Lines.{texts, sentences_from};
 ghost use Rattle.script_text.specs.Script.{is_world, within_limits, world_of, is_end, contents_of, script_of, IsFaultOf};
 ghost use Rattle.script_text.specs.Reading.{body_of, whole_of, Begins, Goes, IsFault, GoesLine, IsLineFault};
 
 use crate::call::Call;
 use crate::fault::ScriptFault;
-use crate::lines::{is_skipped, split, without_return, words};
 use crate::reading::call;
-use crate::words::number;
 use part_geometry::{MAX_DEPTH, MAX_GRAIN, MAX_RANKS};
 use std::alloc::Global;
 use std::marker::Model;
+use text_words::{is_skipped, number, split, without_return, words};
 
 /// The numbers of a script's world, within their limits: 1 to 64 ranks, a grain of 1 to 16,777,216 bytes, and a
 /// depth of 1 to 4 rounds.

@@ -1,43 +1,16 @@
-//! The words of a script: numbers, names, lists of partitions and bytes.
+//! The words of a script: names, lists of partitions and bytes.
 
 ghost use Rattle.std.specs.Prelude.{◌≡◌, IfOk, option_map};
 ghost use Rattle.std.specs.List.{list_all};
-ghost use Rattle.script_text.specs.Lines.{texts};
-ghost use Rattle.script_text.specs.Words.{decimal_of, number_of, is_name_byte, is_name, pairs_of, bytes_of, each_number, numbers_of};
+ghost use Rattle.text_words.specs.Lines.{texts};
+ghost use Rattle.script_text.specs.Words.{is_name_byte, is_name, pairs_of, bytes_of, each_number, numbers_of};
 
-use crate::lines::split;
 use hex::FromHexError;
 use std::alloc::{AllocError, Global};
-
-/// The most digits of a number.
-const MAX_DIGITS: usize = 19;
+use text_words::{number, split};
 
 /// The most letters of a name.
 const MAX_LETTERS: usize = 16;
-
-/// The value of a word of 1 to 19 decimal digits.
-fn decimal(word: &[u8]) -> Option<u64>
-    ensures { result ≡ decimal_of word.now }
-{
-    if word.is_empty() || word.len() > MAX_DIGITS {
-        return None;
-    }
-    let mut value = 0;
-    for &byte in word {
-        if !byte.is_ascii_digit() {
-            return None;
-        }
-        value = 10 * value + u64::from(byte - b'0');
-    }
-    Some(value)
-}
-
-/// The number that a word is, if it is one.
-pub(crate) fn number(word: &[u8]) -> Option<u32>
-    ensures { result ≡ number_of word.now }
-{
-    u32::try_from(decimal(word)?).ok()
-}
 
 /// Whether a byte is a letter of a name.
 fn is_name_byte(byte: u8) -> bool

@@ -6,7 +6,8 @@ use Rattle.std.specs.List.{slice_split}
 use Rattle.std.proofs.lemmas.Bool.Decides.{nat_tests}
 use Rattle.stencil_def.specs.Limits.{IsValue}
 use Rattle.stencil_def.specs.declared.rule.Around.TheVariants as around
-use Rattle.grid_text.specs.Numbers.{signed_of, unsigned_of, within}
+use Rattle.text_words.specs.Numbers.{unsigned_of}
+use Rattle.grid_text.specs.Numbers.{signed_of, within}
 use Rattle.grid_text.specs.declared.number.NumberFault.TheVariants as fault
 use Rattle.stencil_words.specs.declared.words.Size.{Size}
 use Rattle.stencil_words.specs.declared.words.Source.{Source}

@@ -5,7 +5,8 @@ use Rattle.std.specs.List.{slice_split}
 use Rattle.stencil_def.specs.declared.limits.TheConstants.{MAX_CELLS, MAX_DIV, MAX_SIDE, MAX_VALUE}
 use Rattle.stencil_def.specs.declared.rule.Around.{Around}
 use Rattle.stencil_def.specs.declared.rule.Around.TheVariants as around
-use Rattle.grid_text.specs.Numbers.{signed_of, unsigned_of, within}
+use Rattle.text_words.specs.Numbers.{unsigned_of}
+use Rattle.grid_text.specs.Numbers.{signed_of, within}
 use Rattle.grid_text.specs.declared.number.NumberFault.{NumberFault}
 use Rattle.stencil_words.specs.Options.{◌>>=◌, Pair, Text, are_sound, options_of, value, when}
 use Rattle.stencil_words.specs.declared.words.TheConstants.{MAX_STEPS}

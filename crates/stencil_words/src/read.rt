@@ -15,6 +15,7 @@ use crate::{FileName, MAX_STEPS, Size, Source, StencilWords};
 use clap::ArgMatches;
 use std::alloc::{AllocError, Global};
 use stencil_def::{Around, MAX_CELLS, MAX_DIV, MAX_SIDE, MAX_VALUE};
+use text_words::unsigned;
 
 /// A number of 1 to 19 digits in this range.
 #[tactic(auto, unfolding(crate::specs::Words::number_in))]
@@ -22,7 +23,7 @@ fn number_in(low: u32, high: u32, text: &[u8]) -> Option<u32>
     ensures value { result ≡ number_in low high text.now }
     ensures range { IfSome result (λ n. (low ≤ n) × (n ≤ high)) }
 {
-    let number = grid_text::unsigned(text)?;
+    let number = unsigned(text)?;
     if number < u64::from(low) || number > u64::from(high) {
         return None;
     }

@@ -1,5 +1,5 @@
 use Rattle.std.proofs.Common.{◌≡◌, ◌+◌, drop}
-use Rattle.script_text.specs.Lines.{texts, sentences_from}
+use Rattle.text_words.specs.Lines.{texts, sentences_from}
 use Rattle.script_text.specs.Script.{contents_of}
 use Rattle.script_text.specs.Reading.{whole_of}
 use Rattle.script_text.proofs.script.read_lines.Given as goal

@@ -1,5 +1,5 @@
 use Rattle.std.proofs.Common.{◌≡◌, ◌++◌, drop, option_map}
-use Rattle.script_text.specs.Lines.{texts}
+use Rattle.text_words.specs.Lines.{texts}
 use Rattle.script_text.specs.Words.{each_number}
 use Rattle.script_text.proofs.words.each_number.Given as goal
 
