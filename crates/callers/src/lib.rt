@@ -2,6 +2,7 @@
 #![tactic(auto)]
 
 pub mod cell_lanes_caller;
+pub mod event_check_caller;
 pub mod gate_word_caller;
 pub mod grid_text_caller;
 pub mod init_match_caller;
@@ -21,3 +22,4 @@ pub mod slot_rows_caller;
 pub mod stencil_def_caller;
 pub mod stencil_top_caller;
 pub mod stencil_words_caller;
+pub mod text_words_caller;

@@ -26,7 +26,7 @@ fn stop<R: Abort + AllocGlobal>(rt: &R, geometry: Geometry, events: &[Event]) ->
 /// A pair of two send partitions of a byte and one receive partition of two, with 2 rounds in flight and a piece for
 /// each byte. Its words are the claim word, the release word, the take word, the return word, and the piece words: 4
 /// and 5 of even rounds, 6 and 7 of odd ones.
-fn two_and_one<R: Abort>(rt: &R) -> Geometry {
+pub(crate) fn two_and_one<R: Abort>(rt: &R) -> Geometry {
     Geometry::new(2, 1, 1, 2, 1, 2).expect(rt, "within the limits")
 }
 
@@ -86,7 +86,7 @@ fn second_round() -> [Event; 21] {
 }
 
 /// Both rounds.
-fn both_rounds<R: Abort + AllocGlobal>(rt: &R) -> Vec<Event> {
+pub(crate) fn both_rounds<R: Abort + AllocGlobal>(rt: &R) -> Vec<Event> {
     let mut events = Vec::from_array(rt.alloc(), first_round()).expect(rt, "enough memory");
     events
         .extend_from_slice(&second_round())

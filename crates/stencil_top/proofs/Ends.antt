@@ -3,14 +3,14 @@ use Rattle.std.proofs.Common.{◌≡◌, ℕ, ◌≤◌, List, length, Option, S
 use Rattle.std.specs.declared.alloc.Global.{Global}
 use Rattle.stencil_words.specs.declared.words.Source.{Source}
 use Rattle.stencil_words.specs.declared.words.Source.TheVariants as source
-use Rattle.stencil_top.specs.Words.{Command, Script, Stencil, source_file, file_of}
-use Rattle.stencil_top.specs.Outcome.{Texts, Outcome, Ends, EndsWith, IsStencilOutput, answered, noted, texts_in, limit_of, read_of, ◌>>=◌, answers_to, script_output, inputs_in, inputs_of, made_with}
+use Rattle.stencil_top.specs.Words.{Command, Script, Check, Stencil, source_file, file_of}
+use Rattle.stencil_top.specs.Outcome.{Texts, Outcome, Ends, EndsWith, IsStencilOutput, IsCheckOutput, answered, noted, texts_in, limit_of, read_of, ◌>>=◌, answers_to, list_in, script_output, inputs_in, inputs_of, made_with}
 use Rattle.stencil_top.specs.Run.{Files, AreIn, IsNoted}
 use Rattle.stencil_top.specs.Steps.{Gives, ReadsFile, RunsScript, Finds}
 use Rattle.stencil_top.specs.declared.note.TextName.{TextName}
 use Rattle.stencil_top.specs.declared.note.TextName.TheVariants as text
 use Rattle.stencil_top.specs.declared.note.Note.{Note}
-use Rattle.stencil_top.specs.declared.note.Note.TheVariants.{Usage, TooLong, BadScript, BadText, CannotRead, CannotWrite, OutOfMemory}
+use Rattle.stencil_top.specs.declared.note.Note.TheVariants.{Usage, TooLong, BadScript, BadList, BadText, CannotRead, CannotWrite, OutOfMemory}
 use Rattle.stencil_top.proofs.Texts.{not_true, texts_of, is_found, read_short, fails, made_comes}
 
 -- the note of a cause, where what was wanted came to that cause
@@ -32,6 +32,7 @@ pub none_given : {A : Type 0} (command : Option Command) (files : Files) (before
 none_given command files before now wanted IsOutput to Usage f = absurd f.comes
 none_given command files before now wanted IsOutput to (TooLong w) f = is_noted command files before now wanted IsOutput _ to f (TooLong w) f.comes
 none_given command files before now wanted IsOutput to (BadScript fault) f = is_noted command files before now wanted IsOutput _ to f (BadScript fault) f.comes
+none_given command files before now wanted IsOutput to (BadList fault) f = is_noted command files before now wanted IsOutput _ to f (BadList fault) f.comes
 none_given command files before now wanted IsOutput to (BadText w fault) f = is_noted command files before now wanted IsOutput _ to f (BadText w fault) f.comes
 none_given command files before now wanted IsOutput to (CannotRead w) f =
     (f.comes.0, λ calm. is_noted command files before now wanted IsOutput _ to f (CannotRead w) (f.comes.1 calm))
@@ -44,6 +45,7 @@ in_script : (held : List ℕ → Option (List ℕ)) (name : List ℕ) (s : Optio
 in_script held name s is text.Weights needed = absurd (not_true needed)
 in_script held name s is text.Grid needed = absurd (not_true needed)
 in_script held name s is text.Script needed = sym is
+in_script held name s is text.Check needed = absurd (not_true needed)
 
 are_in_script : (files : Files) (name : List ℕ) (s : Option (List ℕ)) → IfSome files (λ held. held name ≡ s)
     → AreIn (file_of (Some (Script name))) files (texts_of None None s)
@@ -102,5 +104,7 @@ pub same_ends : (command : Option Command) (t t' : Texts) (end : Outcome) → ((
 same_ends None t t' end same ends = ends
 same_ends (Some (Script name)) t t' end same ends =
     subst (λ (x : Option (List ℕ)). EndsWith (read_of text.Script x >>= (λ s. answers_to s)) IsAnswer end) (same text.Script refl) ends
+same_ends (Some (Check name)) t t' end same ends =
+    subst (λ (x : Option (List ℕ)). EndsWith (read_of text.Check x >>= (λ s. list_in s)) IsCheckOutput end) (same text.Check refl) ends
 same_ends (Some (Stencil w)) t t' end same ends =
     subst (λ (r : Result _ Note). EndsWith r (IsStencilOutput w) end) (inputs_same w.source t t' same) ends

@@ -20,6 +20,7 @@ in_both : (held : List ℕ → Option (List ℕ)) (grid weights : List ℕ) (w g
 in_both held grid weights w g s is_w is_g text.Weights needed = sym is_w
 in_both held grid weights w g s is_w is_g text.Grid needed = sym is_g
 in_both held grid weights w g s is_w is_g text.Script needed = absurd (not_true needed)
+in_both held grid weights w g s is_w is_g text.Check needed = absurd (not_true needed)
 
 are_in_both : (files : Files) (grid weights : List ℕ) (w g s : Option (List ℕ)) → IfSome files (λ held. held weights ≡ w) → IfSome files (λ held. held grid ≡ g)
     → AreIn (source_file (source.Grid grid weights)) files (texts_of w g s)
@@ -32,6 +33,7 @@ in_one : (held : List ℕ → Option (List ℕ)) (size : Size) (weights : List �
 in_one held size weights w g s is_w text.Weights needed = sym is_w
 in_one held size weights w g s is_w text.Grid needed = absurd (not_true needed)
 in_one held size weights w g s is_w text.Script needed = absurd (not_true needed)
+in_one held size weights w g s is_w text.Check needed = absurd (not_true needed)
 
 are_in_one : (files : Files) (size : Size) (weights : List ℕ) (w g s : Option (List ℕ)) → IfSome files (λ held. held weights ≡ w)
     → AreIn (source_file (source.Make size (Some weights))) files (texts_of w g s)
@@ -53,6 +55,7 @@ none_read files size before now result makes = record {
     in_none held size text.Weights needed = absurd (not_true needed)
     in_none held size text.Grid needed = absurd (not_true needed)
     in_none held size text.Script needed = absurd (not_true needed)
+    in_none held size text.Check needed = absurd (not_true needed)
 
     are_none : (files : Files) (size : Size) → AreIn (source_file (source.Make size None)) files (λ which. None)
     are_none None size = tt

@@ -1,5 +1,6 @@
 pub mod Texts
 pub mod Inputs
 pub mod Ends
+pub mod Checks
 pub mod Told
 pub mod Output

@@ -12,17 +12,22 @@ use Rattle.stencil_top.specs.Steps.{FindsText, ReadsFile, Makes, Comes}
 use Rattle.stencil_top.specs.declared.note.TextName.{TextName}
 use Rattle.stencil_top.specs.declared.note.TextName.TheVariants as text
 use Rattle.stencil_top.specs.declared.note.Note.{Note}
-use Rattle.stencil_top.specs.declared.note.Note.TheVariants.{Usage, TooLong, BadScript, BadText, CannotRead, CannotWrite, OutOfMemory}
+use Rattle.stencil_top.specs.declared.note.Note.TheVariants.{Usage, TooLong, BadScript, BadList, BadText, CannotRead, CannotWrite, OutOfMemory}
 
 -- a test doesn't fail and hold
 pub not_true : false ≡ true → ⊥
 not_true is = cc
 
--- three texts
+-- three texts, and the text of a list of events alone
 abbrev pub texts_of : Option (List ℕ) → Option (List ℕ) → Option (List ℕ) → Texts
 texts_of weights grid script text.Weights = weights
 texts_of weights grid script text.Grid = grid
 texts_of weights grid script text.Script = script
+texts_of weights grid script text.Check = None
+
+abbrev pub list_text : Option (List ℕ) → Texts
+list_text list text.Check = list
+list_text list _ = None
 
 -- what the files hold, where they are told
 abbrev pub told_text : Files → List ℕ → Option (List ℕ)
@@ -92,6 +97,7 @@ fails needs files before now which name found Usage wanted needed held first fin
 fails needs files before now which name found (TooLong w) wanted needed held first finds =
     first (TooLong w) (read_long which found finds.1 ∙ ap (λ (x : TextName). Err (TooLong x)) (sym finds.0))
 fails needs files before now which name found (BadScript fault) wanted needed held first finds = absurd finds
+fails needs files before now which name found (BadList fault) wanted needed held first finds = absurd finds
 fails needs files before now which name found (BadText w fault) wanted needed held first finds = absurd finds
 fails needs files before now which name found (CannotRead w) wanted needed held first finds =
     (is_unread needs files before now which w name found needed held finds.0 finds.1, unread before now which w files found wanted first finds.0 finds.1)
@@ -105,6 +111,7 @@ made_comes needs files before now wanted made (Ok x) e makes = e ∙ makes
 made_comes needs files before now wanted made (Err Usage) e makes = absurd makes
 made_comes needs files before now wanted made (Err (TooLong w)) e makes = e ∙ makes
 made_comes needs files before now wanted made (Err (BadScript fault)) e makes = e ∙ makes
+made_comes needs files before now wanted made (Err (BadList fault)) e makes = e ∙ makes
 made_comes needs files before now wanted made (Err (BadText w fault)) e makes = e ∙ makes
 made_comes needs files before now wanted made (Err (CannotRead w)) e makes = absurd makes
 made_comes needs files before now wanted made (Err CannotWrite) e makes = absurd makes

@@ -5,12 +5,13 @@ use Rattle.part_io.specs.Causes.{Rose}
 use Rattle.part_io.specs.Sink.{Adds}
 use Rattle.grid_text.specs.declared.fault.TextFault.TheVariants as text_fault
 use Rattle.script_text.specs.declared.fault.ScriptFault.TheVariants as script_fault
-use Rattle.stencil_top.specs.Words.{Command, Script, Stencil, file_of}
+use Rattle.event_check.specs.declared.fault.CheckFault.TheVariants as check_fault
+use Rattle.stencil_top.specs.Words.{Command, Script, Check, Stencil, file_of}
 use Rattle.stencil_top.specs.Note.{status_of, note_text, Notes}
-use Rattle.stencil_top.specs.Outcome.{Outcome, Ends, EndsWith, IsStencilOutput, noted, texts_in, inputs_of, script_output}
+use Rattle.stencil_top.specs.Outcome.{Outcome, Ends, EndsWith, IsStencilOutput, IsCheckOutput, noted, texts_in, inputs_of, list_to_check, script_output}
 use Rattle.stencil_top.specs.Run.{Files, Explains, IsNoted, IsCause, EndsAsTold, NeedsNone}
 use Rattle.stencil_top.specs.declared.note.Note.{Note}
-use Rattle.stencil_top.specs.declared.note.Note.TheVariants.{Usage, TooLong, BadScript, BadText, CannotRead, CannotWrite, OutOfMemory}
+use Rattle.stencil_top.specs.declared.note.Note.TheVariants.{Usage, TooLong, BadScript, BadList, BadText, CannotRead, CannotWrite, OutOfMemory}
 use Rattle.stencil_top.specs.declared.status.Status.{Status}
 use Rattle.stencil_top.specs.declared.status.Status.TheVariants.{Done, NoMemory}
 use Rattle.stencil_top.proofs.Texts.{not_true}
@@ -32,6 +33,8 @@ never_done Usage is = cc
 never_done (TooLong w) is = cc
 never_done (BadScript script_fault.NoMemory) is = cc
 never_done (BadScript _) is = cc
+never_done (BadList check_fault.NoMemory) is = cc
+never_done (BadList _) is = cc
 never_done (BadText w text_fault.NoMemory) is = cc
 never_done (BadText w _) is = cc
 never_done (CannotRead w) is = cc
@@ -46,6 +49,7 @@ quiet_with (Err cause) IsOutput end ends done = absurd (never_done cause (ap (λ
 quiet : (command : Option Command) (t : _) (end : Outcome) → Ends command t end → end.status ≡ Done → end.note ≡ []
 quiet None t end ends done = absurd (never_done Usage (ap (λ (o : Outcome). o.status) (sym ends) ∙ done))
 quiet (Some (Script name)) t end ends done = quiet_with (script_output t) _ end ends done
+quiet (Some (Check name)) t end ends done = quiet_with (list_to_check t) IsCheckOutput end ends done
 quiet (Some (Stencil w)) t end ends done = quiet_with (inputs_of w.source t) (IsStencilOutput w) end ends done
 
 -- an output that was written
@@ -104,6 +108,8 @@ told_cause command held W (TooLong w) status out out' line line' b n b' n' statu
     inr (noted_as_told command held (TooLong w) status out out' line line' b n status_is (nothing (λ w. no_write (write w))) notes is)
 told_cause command held W (BadScript fault) status out out' line line' b n b' n' status_is is write nothing notes no_read no_write =
     inr (noted_as_told command held (BadScript fault) status out out' line line' b n status_is (nothing (λ w. no_write (write w))) notes is)
+told_cause command held W (BadList fault) status out out' line line' b n b' n' status_is is write nothing notes no_read no_write =
+    inr (noted_as_told command held (BadList fault) status out out' line line' b n status_is (nothing (λ w. no_write (write w))) notes is)
 told_cause command held W (BadText w fault) status out out' line line' b n b' n' status_is is write nothing notes no_read no_write =
     inr (noted_as_told command held (BadText w fault) status out out' line line' b n status_is (nothing (λ w. no_write (write w))) notes is)
 told_cause command held W (CannotRead w) status out out' line line' b n b' n' status_is is write nothing notes no_read no_write =
@@ -144,6 +150,7 @@ cause_alone : (command : Option Command) (files : Files) (cause : Note) (before 
 cause_alone command files Usage before now none is = is
 cause_alone command files (TooLong w) before now none is = explained_alone command files (λ end. end ≡ noted (TooLong w)) none is
 cause_alone command files (BadScript fault) before now none is = explained_alone command files (λ end. end ≡ noted (BadScript fault)) none is
+cause_alone command files (BadList fault) before now none is = explained_alone command files (λ end. end ≡ noted (BadList fault)) none is
 cause_alone command files (BadText w fault) before now none is = explained_alone command files (λ end. end ≡ noted (BadText w fault)) none is
 cause_alone command files (CannotRead w) before now none is =
     let needed : file_of command w ≡ Some is.0.file = is.0.needed in

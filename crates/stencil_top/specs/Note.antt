@@ -7,13 +7,15 @@ use Rattle.grid_text.specs.declared.fault.TextFault.{TextFault}
 use Rattle.grid_text.specs.declared.fault.TextFault.TheVariants as text_fault
 use Rattle.script_text.specs.declared.fault.ScriptFault.{ScriptFault}
 use Rattle.script_text.specs.declared.fault.ScriptFault.TheVariants as script_fault
+use Rattle.event_check.specs.declared.fault.CheckFault.{CheckFault}
+use Rattle.event_check.specs.declared.fault.CheckFault.TheVariants as check_fault
 use Rattle.stencil_top.specs.declared.status.Status.{Status}
 use Rattle.stencil_top.specs.declared.status.Status.TheVariants as status
 use Rattle.stencil_top.specs.declared.note.TextName.{TextName}
 use Rattle.stencil_top.specs.declared.note.TextName.TheVariants as text
 use Rattle.stencil_top.specs.declared.note.Note.{Note}
 use Rattle.stencil_top.specs.declared.note.Note.TheVariants.{Usage, TooLong, BadScript, BadText, CannotRead}
-use Rattle.stencil_top.specs.declared.note.Note.TheVariants.{CannotWrite, OutOfMemory}
+use Rattle.stencil_top.specs.declared.note.Note.TheVariants.{CannotWrite, OutOfMemory, BadList}
 
 -- the status of a run that ends for this cause
 abbrev pub status_of : Note → Status
@@ -21,6 +23,8 @@ status_of Usage = status.Usage
 status_of (TooLong _) = status.Refused
 status_of (BadScript script_fault.NoMemory) = status.NoMemory
 status_of (BadScript _) = status.Refused
+status_of (BadList check_fault.NoMemory) = status.NoMemory
+status_of (BadList _) = status.Refused
 status_of (BadText _ text_fault.NoMemory) = status.NoMemory
 status_of (BadText _ _) = status.Refused
 status_of (CannotRead _) = status.ReadFault
@@ -32,6 +36,7 @@ abbrev pub name_of : TextName → List ℕ
 name_of text.Weights = codes "weights"
 name_of text.Grid = codes "grid"
 name_of text.Script = codes "script"
+name_of text.Check = codes "check"
 
 abbrev pub out_of_memory : List ℕ
 out_of_memory = codes "partstencil: out of memory"
@@ -56,22 +61,30 @@ text_message which (text_fault.OutOfRange row col) =
     codes "partstencil: " ++ name_of which ++ at_column row col (codes ": out of range")
 text_message which text_fault.NoMemory = out_of_memory
 
-abbrev pub at_line : ℕ → List ℕ → List ℕ
-at_line line words = codes "partstencil: script line " ++ decimal line ++ words
+abbrev pub at_line : TextName → ℕ → List ℕ → List ℕ
+at_line which line words = codes "partstencil: " ++ name_of which ++ codes " line " ++ decimal line ++ words
 
 abbrev pub script_message : ScriptFault → List ℕ
-script_message (script_fault.NoWorld line) = at_line line (codes ": no world")
-script_message (script_fault.BadWorld line) = at_line line (codes ": bad world")
-script_message (script_fault.AfterEnd line) = at_line line (codes ": after end")
-script_message (script_fault.BadLine line) = at_line line (codes ": bad line")
+script_message (script_fault.NoWorld line) = at_line text.Script line (codes ": no world")
+script_message (script_fault.BadWorld line) = at_line text.Script line (codes ": bad world")
+script_message (script_fault.AfterEnd line) = at_line text.Script line (codes ": after end")
+script_message (script_fault.BadLine line) = at_line text.Script line (codes ": bad line")
 script_message script_fault.NoEnd = codes "partstencil: script: no end"
 script_message script_fault.NoMemory = out_of_memory
+
+abbrev pub check_message : CheckFault → List ℕ
+check_message check_fault.NoPair = codes "partstencil: check: no pair"
+check_message (check_fault.BadPair line) = at_line text.Check line (codes ": bad pair")
+check_message (check_fault.TooMany line) = at_line text.Check line (codes ": too many")
+check_message (check_fault.BadEvent line) = at_line text.Check line (codes ": bad event")
+check_message check_fault.NoMemory = out_of_memory
 
 -- the words of a note
 unfoldable pub message_of : Note → List ℕ
 message_of Usage = codes "usage: partstencil stencil OPTIONS | partstencil script FILE"
 message_of (TooLong which) = codes "partstencil: " ++ name_of which ++ codes ": too long"
 message_of (BadScript fault) = script_message fault
+message_of (BadList fault) = check_message fault
 message_of (BadText which fault) = text_message which fault
 message_of (CannotRead which) = codes "partstencil: cannot read " ++ name_of which
 message_of CannotWrite = codes "partstencil: cannot write"

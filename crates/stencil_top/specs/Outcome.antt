@@ -12,18 +12,21 @@ use Rattle.grid_text.specs.declared.fault.TextFault.{TextFault}
 use Rattle.script_text.specs.Script.{script_of}
 use Rattle.script_text.specs.declared.fault.ScriptFault.{ScriptFault}
 use Rattle.script_run.specs.Run.{answers_of}
+use Rattle.event_check.specs.Lists.{Listing, listing_of}
+use Rattle.event_check.specs.Output.{IsTold}
+use Rattle.event_check.specs.declared.fault.CheckFault.{CheckFault}
 use Rattle.stencil_words.specs.declared.words.Size.{Size}
 use Rattle.stencil_words.specs.declared.words.StencilWords.{StencilWords}
 use Rattle.stencil_words.specs.declared.words.Source.{Source}
 use Rattle.stencil_words.specs.declared.words.Source.TheVariants.{Grid, Make}
-use Rattle.stencil_top.specs.Words.{Command, Script, Stencil}
+use Rattle.stencil_top.specs.Words.{Command, Script, Check, Stencil}
 use Rattle.stencil_top.specs.Note.{status_of, note_text}
 use Rattle.stencil_top.specs.declared.status.Status.{Status}
 use Rattle.stencil_top.specs.declared.status.Status.TheVariants.{Done}
 use Rattle.stencil_top.specs.declared.note.TextName.{TextName}
 use Rattle.stencil_top.specs.declared.note.TextName.TheVariants as text
 use Rattle.stencil_top.specs.declared.note.Note.{Note}
-use Rattle.stencil_top.specs.declared.note.Note.TheVariants.{Usage, TooLong, BadScript, BadText, CannotRead}
+use Rattle.stencil_top.specs.declared.note.Note.TheVariants.{Usage, TooLong, BadScript, BadList, BadText, CannotRead}
 use Rattle.stencil_top.specs.declared.reading.Inputs.{Inputs}
 
 -- the text of each name, where there is one
@@ -35,6 +38,7 @@ abbrev pub limit_of : TextName → ℕ
 limit_of text.Weights = 4096
 limit_of text.Grid = 33554432
 limit_of text.Script = 1048576
+limit_of text.Check = 4194304
 
 -- the second step, where the first gives a value
 infixl 10 ◌>>=◌
@@ -47,7 +51,7 @@ abbrev pub read_of : TextName → Option (List ℕ) → Result (List ℕ) Note
 read_of which None = Err (CannotRead which)
 read_of which (Some text) = if nat_lt (limit_of which) (length text) then Err (TooLong which) else Ok text
 
--- what a text of weights or of a grid, and what a script reads as
+-- what a text of weights or of a grid, what a script, and what a list of events reads as
 abbrev pub or_bad_text : {A : Type 0} → TextName → Result A TextFault → Result A Note
 or_bad_text which (Ok x) = Ok x
 or_bad_text which (Err fault) = Err (BadText which fault)
@@ -55,6 +59,10 @@ or_bad_text which (Err fault) = Err (BadText which fault)
 abbrev pub or_bad_script : {A : Type 0} → Result A ScriptFault → Result A Note
 or_bad_script (Ok x) = Ok x
 or_bad_script (Err fault) = Err (BadScript fault)
+
+abbrev pub or_bad_list : {A : Type 0} → Result A CheckFault → Result A Note
+or_bad_list (Ok x) = Ok x
+or_bad_list (Err fault) = Err (BadList fault)
 
 -- the answers to the script that a text is
 abbrev pub answers_to : List ℕ → Result (List ℕ) Note
@@ -66,6 +74,18 @@ abbrev pub script_output : Texts → Result (List ℕ) Note
 script_output files = do
   text ← read_of text.Script (files text.Script)
   answers_to text
+
+-- the list of events that a text is
+abbrev pub list_in : List ℕ → Result Listing Note
+list_in text = or_bad_list (listing_of text)
+
+abbrev pub list_to_check : Texts → Result Listing Note
+list_to_check files = do
+  text ← read_of text.Check (files text.Check)
+  list_in text
+
+abbrev pub IsCheckOutput : Listing → List ℕ → Type 0
+IsCheckOutput list output = IsTold list.geometry list.events output
 
 -- the weights where no file names others: 1, 2, 1 and 2, 4, 2 and 1, 2, 1, row by row
 abbrev pub default_weights : Square
@@ -139,6 +159,7 @@ EndsWith (Err cause) IsOutput end = end ≡ noted cause
 abbrev pub Ends : Option Command → Texts → Outcome → Type 0
 Ends None files end = end ≡ noted Usage
 Ends (Some (Script name)) files end = EndsWith (script_output files) (λ answers output. output ≡ answers) end
+Ends (Some (Check name)) files end = EndsWith (list_to_check files) IsCheckOutput end
 Ends (Some (Stencil w)) files end = EndsWith (inputs_of w.source files) (IsStencilOutput w) end
 
 -- the texts in the files of these names

@@ -8,7 +8,7 @@ use Rattle.stencil_top.specs.declared.status.Status.{Status}
 use Rattle.stencil_top.specs.declared.status.Status.TheVariants.{Done}
 use Rattle.stencil_top.specs.declared.note.TextName.{TextName}
 use Rattle.stencil_top.specs.declared.note.Note.{Note}
-use Rattle.stencil_top.specs.declared.note.Note.TheVariants.{Usage, TooLong, BadScript, BadText, CannotRead}
+use Rattle.stencil_top.specs.declared.note.Note.TheVariants.{Usage, TooLong, BadScript, BadList, BadText, CannotRead}
 use Rattle.stencil_top.specs.declared.note.Note.TheVariants.{CannotWrite, OutOfMemory}
 
 -- the files, by name, where they are told
@@ -47,6 +47,7 @@ abbrev pub IsCause : Note → Option Command → Files → ℕ → ℕ → Type 
 IsCause Usage command files before now = command ≡ None
 IsCause (TooLong which) command files before now = IsNoted (TooLong which) command files
 IsCause (BadScript fault) command files before now = IsNoted (BadScript fault) command files
+IsCause (BadList fault) command files before now = IsNoted (BadList fault) command files
 IsCause (BadText which fault) command files before now = IsNoted (BadText which fault) command files
 IsCause (CannotRead which) command files before now =
     IsUnread (file_of command) files before now which × (¬ Rose before now → IsNoted (CannotRead which) command files)

@@ -4,7 +4,8 @@ use Rattle.std.specs.Prelude.{IsSome, IsSomeAnd, ⊤}
 use Rattle.std.specs.declared.alloc.Global.{Global}
 use Rattle.part_io.specs.Causes.{Rose}
 use Rattle.stencil_top.specs.Words.{Command}
-use Rattle.stencil_top.specs.Outcome.{Texts, answered, limit_of}
+use Rattle.event_check.specs.Lists.{Listing}
+use Rattle.stencil_top.specs.Outcome.{IsCheckOutput, Texts, answered, limit_of}
 use Rattle.stencil_top.specs.Run.{AreIn, Explains, Files, IsCause, IsUnread, Needs}
 use Rattle.stencil_top.specs.declared.note.TextName.{TextName}
 use Rattle.stencil_top.specs.declared.note.Note.{Note}
@@ -43,6 +44,10 @@ Makes wanted result = wanted ≡ result
 abbrev pub RunsScript : Result (List ℕ) Note → Result (Vec ℕ Global) Note → Type 0
 RunsScript wanted (Ok text) = wanted ≡ Ok text.items
 RunsScript wanted (Err cause) = Makes wanted (Err cause)
+
+abbrev pub RunsCheck : Result Listing Note → Result (Vec ℕ Global) Note → Type 0
+RunsCheck wanted (Ok text) = (list : Listing) × (wanted ≡ Ok list) × IsCheckOutput list text.items
+RunsCheck wanted (Err cause) = Makes wanted (Err cause)
 
 -- what was asked for came, or memory ran out, or a file could not be read
 abbrev pub Comes : {A : Type 0} → Needs → Files → ℕ → ℕ → Result A Note → Result A Note → Type 0

@@ -14,27 +14,30 @@ use Rattle.stencil_top.specs.declared.note.TextName.TheVariants as text
 abbrev pub texts : Vec (String Global) Global → List (List ℕ)
 texts words = map string_bytes words.items
 
--- the name of the script's file, where the words are `script` and such a name
-abbrev pub script_reading : List (List ℕ) → Option (List ℕ)
-script_reading (command ∷ name ∷ []) = if bytes_eq command (codes "script") && is_value name then Some name else None
-script_reading _ = None
+-- the name of a file, where the words are this command and such a name
+abbrev pub named : List ℕ → List (List ℕ) → Option (List ℕ)
+named known (command ∷ name ∷ []) = if bytes_eq command known && is_value name then Some name else None
+named known _ = None
 
--- a script in a file of this name, or a stencil
+-- a script or a list of events in a file of this name, or a stencil
 pub data Command : Type 0 where
   Script : List ℕ → Command
+  Check : List ℕ → Command
   Stencil : StencilWords → Command
 
 abbrev pub stencil_command : Option StencilWords → Option Command
 stencil_command (Some w) = Some (Stencil w)
 stencil_command None = None
 
-abbrev pub script_or : Option (List ℕ) → Option Command → Option Command
-script_or (Some name) other = Some (Script name)
-script_or None other = other
+abbrev pub named_or : (List ℕ → Command) → Option (List ℕ) → Option Command → Option Command
+named_or command (Some name) other = Some (command name)
+named_or command None other = other
 
 -- what the words ask for, where they ask for something
 abbrev pub command_of : List (List ℕ) → Option Command
-command_of words = script_or (script_reading words) (stencil_command (stencil_reading words))
+command_of words =
+    named_or Script (named (codes "script") words)
+    (named_or Check (named (codes "check") words) (stencil_command (stencil_reading words)))
 
 -- the name of the file that has a text, where the command needs it
 abbrev pub source_file : Source → TextName → Option (List ℕ)
@@ -45,5 +48,6 @@ source_file _ _ = None
 
 abbrev pub file_of : Option Command → TextName → Option (List ℕ)
 file_of (Some (Script name)) text.Script = Some name
+file_of (Some (Check name)) text.Check = Some name
 file_of (Some (Stencil w)) which = source_file w.source which
 file_of _ _ = None

@@ -2,10 +2,12 @@
 
 ghost use Rattle.std.specs.Prelude.{◌≡◌, ◌<◌, ◌≤◌, ◌+◌, ◌++◌, length, codes, decimal};
 ghost use Rattle.stencil_top.specs.Note.{status_of, name_of, at_row, at_column, at_line, text_message, script_message};
+ghost use Rattle.stencil_top.specs.Note.{check_message};
 ghost use Rattle.stencil_top.specs.Note.{message_of, note_text, Notes};
 
 use crate::status::Status;
 use arrayvec::ArrayString;
+use event_check::CheckFault;
 use grid_text::TextFault;
 use itoa::Buffer;
 use part_io::Sink;
@@ -26,6 +28,8 @@ pub enum TextName {
     Grid,
     /// A script.
     Script,
+    /// A list of events.
+    Check,
 }
 
 /// Why a run ends without its output.
@@ -37,6 +41,8 @@ pub enum Note {
     TooLong(TextName),
     /// The script's text is refused.
     BadScript(ScriptFault),
+    /// The text of a list of events is refused.
+    BadList(CheckFault),
     /// The text of a grid or of weights is refused.
     BadText(TextName, TextFault),
     /// The file could not be read, or isn't there.
@@ -55,9 +61,12 @@ impl Note {
         match self {
             Note::Usage => Status::Usage,
             Note::BadScript(ScriptFault::NoMemory)
+            | Note::BadList(CheckFault::NoMemory)
             | Note::BadText(_, TextFault::NoMemory)
             | Note::OutOfMemory => Status::NoMemory,
-            Note::TooLong(_) | Note::BadScript(_) | Note::BadText(_, _) => Status::Refused,
+            Note::TooLong(_) | Note::BadScript(_) | Note::BadList(_) | Note::BadText(_, _) => {
+                Status::Refused
+            }
             Note::CannotRead(_) => Status::ReadFault,
             Note::CannotWrite => Status::WriteFault,
         }
@@ -73,6 +82,7 @@ fn name(text: TextName) -> &'static str
         TextName::Weights => "weights",
         TextName::Grid => "grid",
         TextName::Script => "script",
+        TextName::Check => "check",
     }
 }
 
@@ -135,14 +145,16 @@ fn text_line(text: TextName, fault: TextFault) -> Line
     line
 }
 
-/// The words of a fault in a line of a script.
-fn script_line_fault(number: u32, words: &str) -> Line
+/// The words of a fault in a line of a text.
+fn line_fault(text: TextName, number: u32, words: &str) -> Line
     requires short { length words.now ≤ 20 }
-    ensures words { result.bytes ≡ at_line number words.now }
+    ensures words { result.bytes ≡ at_line text number words.now }
     ensures short { length result.bytes < MAX_LINE }
 {
     let mut line = ArrayString::new();
-    line.push_str("partstencil: script line ");
+    line.push_str("partstencil: ");
+    line.push_str(name(text));
+    line.push_str(" line ");
     push_number(&mut line, number);
     line.push_str(words);
     line
@@ -164,12 +176,26 @@ fn script_line(fault: ScriptFault) -> Line
     ensures short { length result.bytes < MAX_LINE }
 {
     match fault {
-        ScriptFault::NoWorld { line } => script_line_fault(line, ": no world"),
-        ScriptFault::BadWorld { line } => script_line_fault(line, ": bad world"),
-        ScriptFault::AfterEnd { line } => script_line_fault(line, ": after end"),
-        ScriptFault::BadLine { line } => script_line_fault(line, ": bad line"),
+        ScriptFault::NoWorld { line } => line_fault(TextName::Script, line, ": no world"),
+        ScriptFault::BadWorld { line } => line_fault(TextName::Script, line, ": bad world"),
+        ScriptFault::AfterEnd { line } => line_fault(TextName::Script, line, ": after end"),
+        ScriptFault::BadLine { line } => line_fault(TextName::Script, line, ": bad line"),
         ScriptFault::NoEnd => plain_line("partstencil: script: no end"),
         ScriptFault::NoMemory => plain_line("partstencil: out of memory"),
+    }
+}
+
+/// The words of a fault of a list of events.
+fn check_line(fault: CheckFault) -> Line
+    ensures words { result.bytes ≡ check_message fault }
+    ensures short { length result.bytes < MAX_LINE }
+{
+    match fault {
+        CheckFault::NoPair => plain_line("partstencil: check: no pair"),
+        CheckFault::BadPair { line } => line_fault(TextName::Check, line, ": bad pair"),
+        CheckFault::TooMany { line } => line_fault(TextName::Check, line, ": too many"),
+        CheckFault::BadEvent { line } => line_fault(TextName::Check, line, ": bad event"),
+        CheckFault::NoMemory => plain_line("partstencil: out of memory"),
     }
 }
 
@@ -197,6 +223,7 @@ fn message(note: Note) -> Line
         Note::Usage => plain_line("usage: partstencil stencil OPTIONS | partstencil script FILE"),
         Note::TooLong(text) => file_line("partstencil: ", text, ": too long"),
         Note::BadScript(fault) => script_line(fault),
+        Note::BadList(fault) => check_line(fault),
         Note::BadText(text, fault) => text_line(text, fault),
         Note::CannotRead(text) => file_line("partstencil: cannot read ", text, ""),
         Note::CannotWrite => plain_line("partstencil: cannot write"),

@@ -31,6 +31,7 @@ fn limit(text: TextName) -> u32
         TextName::Weights => 4096,
         TextName::Grid => 33_554_432,
         TextName::Script => 1_048_576,
+        TextName::Check => 4_194_304,
     }
 }
 

@@ -4,19 +4,20 @@ ghost use Rattle.std.specs.Prelude.{◌≡◌, ◌≢◌, ◌≤◌, ◌⊎◌, 
 ghost use Rattle.part_io.specs.Causes.{Rose, HasCause};
 ghost use Rattle.part_io.specs.Sink.{Adds, AddsFront, Writes};
 ghost use Rattle.stencil_words.specs.Limits.{IsRead};
-ghost use Rattle.stencil_top.specs.Words.{Script, Stencil, command_of, file_of, texts};
+ghost use Rattle.stencil_top.specs.Words.{Check, Script, Stencil, command_of, file_of, texts};
 ghost use Rattle.stencil_top.specs.Note.{status_of, note_text, Notes};
-ghost use Rattle.stencil_top.specs.Outcome.{answers_to};
+ghost use Rattle.stencil_top.specs.Outcome.{answers_to, list_in};
 ghost use Rattle.stencil_top.specs.declared.note.Note.{Note};
 ghost use Rattle.stencil_top.specs.declared.note.TextName.{TextName};
 ghost use Rattle.stencil_top.specs.Run.{EndsAsTold, Explains, IsCause, IsUnread, NeedsNone};
-ghost use Rattle.stencil_top.specs.Steps.{Gives, KeepsCount, RunsScript};
+ghost use Rattle.stencil_top.specs.Steps.{Gives, KeepsCount, RunsCheck, RunsScript};
 
 use crate::note::{self, Note, TextName};
 use crate::reading::{read_inputs, read_text};
 use crate::status::Status;
 use crate::stencil::stencil_output;
-use crate::words::script_name;
+use crate::words::named;
+use event_check::{CheckFault, check_events};
 use part_io::{Shelf, Sink};
 use script_run::run_script;
 use script_text::{ScriptFault, parse_script};
@@ -51,6 +52,30 @@ fn script<H: Shelf>(alloc: Global, name: &str, shelf: &mut H) -> Result<Vec<u8>,
     run_text(alloc, &text)
 }
 
+/// What is told of the list of events that a text is.
+fn check_text(alloc: Global, text: &[u8]) -> Result<Vec<u8>, Note>
+    requires { length text.now ≤ 4194304 }
+    ensures { RunsCheck (list_in text.now) result }
+{
+    match check_events(alloc, text) {
+        Ok(output) => Ok(output),
+        Err(CheckFault::NoMemory) => Err(Note::OutOfMemory),
+        Err(fault) => Err(Note::BadList(fault)),
+    }
+}
+
+/// The output of a list of events.
+fn check<H: Shelf>(alloc: Global, name: &str, shelf: &mut H) -> Result<Vec<u8>, Note>
+    ensures gives { Gives (Some (Check name.now)) (H.files shelf.old)
+        (H.faults shelf.old) (H.faults shelf.new) result }
+    ensures files { H.files shelf.new ≡ H.files shelf.old }
+    ensures later { H.faults shelf.old ≤ H.faults shelf.new }
+    ensures kept { KeepsCount (H.faults shelf.old) (H.faults shelf.new) result }
+{
+    let text = read_text(alloc, TextName::Check, name, shelf)?;
+    check_text(alloc, &text)
+}
+
 /// The output of a stencil.
 fn stencil<H: Shelf>(alloc: Global, words: &StencilWords, shelf: &mut H) -> Result<Vec<u8>, Note>
     requires { IsRead words.now }
@@ -75,8 +100,11 @@ fn output<H: Shelf>(alloc: Global, words: &Vec<String>, shelf: &mut H) -> Result
     ensures later { H.faults shelf.old ≤ H.faults shelf.new }
     ensures kept { KeepsCount (H.faults shelf.old) (H.faults shelf.new) result }
 {
-    if let Some(name) = script_name(words) {
+    if let Some(name) = named("script", words) {
         return script(alloc, name, shelf);
+    }
+    if let Some(name) = named("check", words) {
+        return check(alloc, name, shelf);
     }
     match read_words(alloc, words) {
         Ok(Some(words)) => stencil(alloc, &words, shelf),
@@ -128,8 +156,8 @@ fn answer<H: Shelf, K: Sink>(
 
 /// Runs what the words ask for, and gives the status that the run ends with.
 ///
-/// The words are `script FILE`, or `stencil` and its options. The texts are read from `shelf`: a script; or the
-/// weights, where a file is named, and then the grid. The output goes to `out` in one piece, and where the run ends
+/// The words are `script FILE`, `check FILE`, or `stencil` and its options. The texts are read from `shelf`: a script;
+/// or a list of events; or the weights, where a file is named, and then the grid. The output goes to `out` in one piece, and where the run ends
 /// without it a line goes to `note`. `NoMemory` may be the end of any run.
 pub fn run_serial<H: Shelf, K: Sink, N: Sink>(
     alloc: Global,
