@@ -74,7 +74,8 @@ with_event line (Some e) (Err fault) = Err fault
 abbrev pub events_after : ℕ → List Sentence → Result (List Event) CheckFault
 events_after n [] = Ok []
 events_after n (s ∷ rest) =
-    if n == MAX_EVENTS then Err (TooMany s.number) else with_event s.number (event_of s.words) (events_after (n + 1) rest)
+    if n == MAX_EVENTS then Err (TooMany s.number)
+    else with_event s.number (event_of s.words) (events_after (n + 1) rest)
 
 -- the geometry of a line, and then the events of the lines behind it
 abbrev pub with_pair : ℕ → Option Shape → Result (List Event) CheckFault → Result Listing CheckFault

@@ -25,7 +25,8 @@ geometry_of walk = geometry_of_state walk.state
 
 -- What comes of an event from the core s. Where it is made, it is a move that is allowed, the new walk stands for the
 -- core after it, and the piece that goes out and the partition that is taken are those of the entries that it adds. It
--- isn't made where no move that it is, is allowed, or where memory runs out; the new walk then stands for the same core.
+-- isn't made where no move that it is, is allowed, or where memory runs out; the new walk then stands for the same
+-- core.
 abbrev pub Walks : Shape → Event → (Core Plain → Type 0) → Core Plain → Result Applied WalkFault → Type 0
 Walks g e Stands s (Ok made) =
     (m : Move Plain) × Reads g s e m × IsAllowed g s m × Stands (after g s m) × (made.out ≡ out_in (entries g s m))

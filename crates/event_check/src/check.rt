@@ -33,10 +33,10 @@ fn tell(alloc: Global, geometry: Geometry, events: &[Event]) -> Result<Vec<u8>, 
     Ok(text)
 }
 
-/// Reads a list of events, makes one after the other up to the first that isn't allowed, and tells what they did: a line
-/// `out K I` for each piece I of round K that went out and a line `take K Q` for each receive partition Q that was taken
-/// in round K, in order, and then `ran N` with the number of events, or `stopped AT` with the place, counted from 0, of
-/// the first that isn't allowed (MPI 4.0, chapter 4, by the atomic steps of `pair_core`).
+/// Reads a list of events, makes one after the other up to the first that isn't allowed, and tells what they did (MPI
+/// 4.0, chapter 4, by the atomic steps of `pair_core`): a line `out K I` for each piece I of round K that went out and a
+/// line `take K Q` for each receive partition Q that was taken in round K, in order, and then `ran N` with the number of
+/// events, or `stopped AT` with the place, counted from 0, of the first that isn't allowed.
 ///
 /// Lines end by LF, which the last one may lack; a CR at the end of a line is dropped; words stand between spaces and
 /// tabs; a line without words is skipped, and so is one that begins with `#`. The first line is `pair` with the six
@@ -44,8 +44,8 @@ fn tell(alloc: Global, geometry: Geometry, events: &[Event]) -> Result<Vec<u8>, 
 /// seat of at most 65 and a kind from 1 to 13.
 ///
 /// The whole text is read first, and its first fault in the order of lines is answered: `NoPair`, where every line is
-/// skipped; `BadPair`, where the first one is no pair; `TooMany` at the 100,001st event, whatever the line says; and else
-/// `BadEvent` where a line is no event. `NoMemory` may be answered in place of any other answer.
+/// skipped; `BadPair`, where the first one is no pair; `TooMany` at the 100,001st event, whatever the line says; and
+/// else `BadEvent` where a line is no event. `NoMemory` may be answered in place of any other answer.
 pub fn check_events(alloc: Global, bytes: &[u8]) -> Result<Vec<u8>, CheckFault>
     requires { length bytes.now ≤ MAX_CHECK_BYTES }
     ensures output { IfOk result (λ output. IsOutput bytes.now output.items) }

@@ -22,11 +22,7 @@ fn text_of(alloc: Global, events: &[Event]) -> Result<Vec<u8>, AllocError> {
     for event in events {
         let line = format!(in alloc;
             "e {} {} {} {} {}\n",
-            event.seat,
-            event.kind,
-            event.word,
-            event.round,
-            event.partition,
+            event.seat, event.kind, event.word, event.round, event.partition,
         )?;
         text.extend_from_slice(line.as_bytes())?;
     }

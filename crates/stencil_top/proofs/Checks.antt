@@ -4,7 +4,7 @@ use Rattle.std.proofs.Common.{sym, ap, ◌∙◌, subst}
 use Rattle.std.specs.declared.alloc.Global.{Global}
 use Rattle.event_check.specs.Lists.{Listing}
 use Rattle.stencil_top.specs.Words.{Check, file_of}
-use Rattle.stencil_top.specs.Outcome.{EndsWith, IsCheckOutput, answered, texts_in, limit_of, read_of, ◌>>=◌, list_in}
+use Rattle.stencil_top.specs.Outcome.{EndsWith, IsCheckOutput, answered, texts_in, limit_of, ◌>>=◌, list_in}
 use Rattle.stencil_top.specs.Outcome.{list_to_check}
 use Rattle.stencil_top.specs.Run.{Files, AreIn}
 use Rattle.stencil_top.specs.Steps.{Gives, ReadsFile, RunsCheck}
