@@ -1,0 +1,6 @@
+pub mod Plan
+pub mod Kept
+pub mod Edges
+pub mod Making
+pub mod Elements
+pub mod Worlds
