@@ -10,3 +10,4 @@ pub mod PaddedFacts
 pub mod ReadyFacts
 pub mod ReciprocalFacts
 pub mod WindowFacts
+pub mod BlockFacts

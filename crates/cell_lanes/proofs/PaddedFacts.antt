@@ -142,7 +142,7 @@ rows-next own rule cols row start values new rest done e room long is r x less l
     ap (λ k. get_or (take start values ++ (new ++ rest)) k (pos 0)) (sym there)
     ∙ (part-at values new rest start x room (omega (arith, long, lt)) ∙ (is x lt ∙ ap (λ n. end_or rule cols (own n) x) same)))
 
-sum-same : (n : ℕ) (f g : ℕ → ℤ) → ((k : ℕ) → k < n → f k ≡ g k) → sum_below n f ≡ sum_below n g
+pub sum-same : (n : ℕ) (f g : ℕ → ℤ) → ((k : ℕ) → k < n → f k ≡ g k) → sum_below n f ≡ sum_below n g
 unfolding sum_below
 sum-same zero f g e = refl
 sum-same (suc n) f g e =

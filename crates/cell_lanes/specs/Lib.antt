@@ -1,3 +1,4 @@
+pub mod Block
 pub mod Lanes
 pub mod Mirror
 pub mod Padding

@@ -1,6 +1,7 @@
 //! The rows of the stencil, two cells at a time.
 #![tactic(auto)]
 
+mod block;
 mod divisor;
 mod lanes;
 mod mirrored;
@@ -10,6 +11,7 @@ mod run;
 mod sums;
 mod weights;
 
+pub use block::Block;
 pub use divisor::Divisor;
 pub use run::run_lanes;
 pub use sums::{new_cells, window_sums};

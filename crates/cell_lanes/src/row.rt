@@ -34,7 +34,7 @@ pub(crate) fn end_value(
 
 /// Gives the places from `from` up to and without `to`, which are all before or all behind the row's own, what lies
 /// there.
-fn set_ends(rule: &Rule, cols: u32, from: u32, to: u32, row: &mut [i64])
+pub(crate) fn set_ends(rule: &Rule, cols: u32, from: u32, to: u32, row: &mut [i64])
     requires cols { IsSide cols }
     requires row { length row.old ≡ with_ends rule.now cols }
     requires values { All IsValue row.old }
