@@ -1,9 +1,8 @@
 -- A plan: how the rows of a grid go to ranks, and how long the messages between ranks are.
 use Rattle.std.specs.Prelude.{◌⊎◌, ℕ, ◌+◌, ◌*◌, ◌/◌, ◌%◌, ◌≤◌, Bool, ◌&&◌, ◌==◌, Option, IsTrue, find, is_some, unwrap_or}
 use Rattle.std.specs.List.{range_with_len}
-use Rattle.part_geometry.specs.declared.TheConstants.{MAX_DEPTH, MAX_GRAIN, MAX_PARTS}
+use Rattle.part_geometry.specs.declared.TheConstants.{MAX_DEPTH, MAX_GRAIN, MAX_PARTS, MAX_RANKS}
 use Rattle.part_geometry.specs.Shape.{IsWithin, Shape}
-use Rattle.init_match.specs.declared.TheConstants.{MAX_RANKS}
 use Rattle.stencil_def.specs.declared.limits.TheConstants.{MAX_CELLS}
 use Rattle.stencil_def.specs.declared.rule.Around.{Around}
 use Rattle.stencil_def.specs.Limits.{IsSide}

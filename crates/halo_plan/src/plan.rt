@@ -1,9 +1,8 @@
 //! The plan.
 
 ghost use Rattle.std.specs.Prelude.{◌≡◌, ◌<◌, ◌≤◌, ◌+◌, ◌-◌, ◌*◌, ◌==◌, if◌then◌else◌, IsTrue, Ok, Some, true, length, slice_get, IfOk};
-ghost use Rattle.part_geometry.specs.declared.TheConstants.{MAX_DEPTH, MAX_GRAIN, MAX_PARTS};
+ghost use Rattle.part_geometry.specs.declared.TheConstants.{MAX_DEPTH, MAX_GRAIN, MAX_PARTS, MAX_RANKS};
 ghost use Rattle.part_geometry.specs.Shape.{IsShape, IsWithin, send_total};
-ghost use Rattle.init_match.specs.declared.TheConstants.{MAX_RANKS};
 ghost use Rattle.stencil_def.specs.declared.limits.TheConstants.{MAX_CELLS};
 ghost use Rattle.stencil_def.specs.Limits.{IsSide};
 ghost use Rattle.halo_plan.specs.declared.TheConstants.{DOWN, ELEMENT_BYTES, UP};
