@@ -1,5 +1,5 @@
--- A part of a grid with a halo: more rows and columns on each side, as many as the weights reach. What it holds is defined
--- by the stencil's reading of the grid, so the halo may lie inside the grid or outside.
+-- A part of a grid with a halo: more rows and columns on each side, as many as the weights reach. What it holds is
+-- defined by the stencil's reading of the grid, so the halo may lie inside the grid or outside.
 use Rattle.std.specs.Prelude.{◌≡◌, ℕ, ◌+◌, ◌*◌, ◌<◌, ◌≤◌, ℤ, pos, ◌-ℤ◌, List, ◌++◌, length, take, drop, slice_index_or}
 use Rattle.std.specs.List.{All}
 use Rattle.stencil_def.specs.Limits.{IsSide, IsValue, IsWithin}
@@ -25,7 +25,8 @@ width b = b.cols + 2 * b.reach
 abbrev pub at : Part → ℕ → ℕ → ℤ
 at b y x = slice_index_or b.values (y * width b + x) (pos 0)
 
--- the part has the reading of the grid, in its halo too, where its first own cell is that at row `top` and column `left`
+-- the part has the reading of the grid, in its halo too, where its first own cell is that at row `top` and column
+-- `left`
 abbrev pub Holds : Plane → Rule → ℕ → ℕ → Part → Type 0
 Holds g rule top left b = (y x : ℕ) → y < height b → x < width b
     → at b y x ≡ read g rule (pos (top + y) -ℤ pos b.reach) (pos (left + x) -ℤ pos b.reach)

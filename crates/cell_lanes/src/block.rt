@@ -1,6 +1,7 @@
 //! A part of a grid with a halo, for whoever computes a grid in parts.
 
-ghost use Rattle.std.specs.Prelude.{◌≡◌, ◌⊎◌, ℕ, ◌+◌, ◌*◌, ◌<◌, ◌≤◌, ◌++◌, pos, length, take, drop, slice_index_or, IfOk};
+ghost use Rattle.std.specs.Prelude.{◌≡◌, ◌⊎◌, ℕ, ◌+◌, ◌*◌, ◌<◌, ◌≤◌, ◌++◌, pos, length, take, drop};
+ghost use Rattle.std.specs.Prelude.{slice_index_or, IfOk};
 ghost use Rattle.std.specs.List.{All};
 ghost use Rattle.stencil_def.specs.declared.rule.Rule.{Rule};
 ghost use Rattle.stencil_def.specs.Limits.{IsSide, IsValue, IsWithin};
@@ -19,7 +20,8 @@ use std::mem;
 use stencil_def::{Grid, Rule};
 
 /// A part of a grid: some rows and columns of its own, and a halo round them, as wide as the weights reach, which its
-/// caller fills before each step. Contracts see a `Part`, whose places are counted from the halo's first row and column.
+/// caller fills before each step. Contracts see a `Part`, whose places are counted from the halo's first row and
+/// column.
 #[derive(Drop)]
 pub struct Block {
     rows: u32,
@@ -168,8 +170,8 @@ impl Block {
         self.reach
     }
 
-    /// Computes its own cells after one step, from what it and its halo hold. What the halo holds then is for its caller
-    /// to put.
+    /// Computes its own cells after one step, from what it and its halo hold. What the halo holds then is for its
+    /// caller to put.
     pub fn step(&mut self, weights: &LaneWeights, divisor: &Divisor)
         requires reach { weights.now.reach ≡ self.old.reach }
         ensures own { (g : Plane) (rule : Rule) (top left : ℕ) → weights.now ≡ rule.weights → divisor.now ≡ rule.div →

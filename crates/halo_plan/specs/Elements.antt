@@ -20,7 +20,8 @@ encoded p xs = flat_map element (xs ++ replicate (elements p - length xs) (pos 0
 
 -- the value of the element at place i, counted in elements
 abbrev pub value_at : List ℕ → ℕ → ℤ
-value_at bytes i = cast_signed w64 (from_le_bytes w64 (slice_range bytes (i * ELEMENT_BYTES) (i * ELEMENT_BYTES + ELEMENT_BYTES)))
+value_at bytes i =
+    cast_signed w64 (from_le_bytes w64 (slice_range bytes (i * ELEMENT_BYTES) (i * ELEMENT_BYTES + ELEMENT_BYTES)))
 
 -- the values of the first n elements
 unfoldable pub decoded : ℕ → List ℕ → List ℤ

@@ -1,5 +1,6 @@
 -- A plan: how the rows of a grid go to ranks, and how long the messages between ranks are.
-use Rattle.std.specs.Prelude.{◌⊎◌, ℕ, ◌+◌, ◌*◌, ◌/◌, ◌%◌, ◌≤◌, Bool, ◌&&◌, ◌==◌, Option, IsTrue, find, is_some, unwrap_or}
+use Rattle.std.specs.Prelude.{◌⊎◌, ℕ, ◌+◌, ◌*◌, ◌/◌, ◌%◌, ◌≤◌, Bool, ◌&&◌, ◌==◌, Option, IsTrue, find, is_some}
+use Rattle.std.specs.Prelude.{unwrap_or}
 use Rattle.std.specs.List.{range_with_len}
 use Rattle.part_geometry.specs.declared.TheConstants.{MAX_DEPTH, MAX_GRAIN, MAX_PARTS, MAX_RANKS}
 use Rattle.part_geometry.specs.Shape.{IsWithin, Shape}
@@ -8,8 +9,8 @@ use Rattle.stencil_def.specs.declared.rule.Around.{Around}
 use Rattle.stencil_def.specs.Limits.{IsSide}
 use Rattle.halo_plan.specs.declared.TheConstants.{ELEMENT_BYTES, MAX_MULTIPLE}
 
--- the rows and columns of the grid, how many ranks there are, the partitions of both sides of a message, the least bytes
--- of a piece, how many rounds may be in flight, how far the weights reach, and what lies outside the grid
+-- the rows and columns of the grid, how many ranks there are, the partitions of both sides of a message, the least
+-- bytes of a piece, how many rounds may be in flight, how far the weights reach, and what lies outside the grid
 pub record Plan : Type 0 where
   pub rows : ℕ
   pub cols : ℕ

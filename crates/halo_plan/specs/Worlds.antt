@@ -30,8 +30,8 @@ calls_of_pair m = (m.send.1, m.recv.1)
 abbrev pub calls_of_edge : Plan → Edge → Call × Call
 calls_of_edge p e = (send_of p e, recv_of p e)
 
--- By the matching of the world, its pair of each number is the edge of that number: the two calls of the pair are those of
--- the edge, and its geometry is that of the plan.
+-- By the matching of the world, its pair of each number is the edge of that number: the two calls of the pair are those
+-- of the edge, and its geometry is that of the plan.
 pub record IsWorldOf (p : Plan) (w : WorldState) : Type 0 where
   pub made : HasCalls p (edges p) w
   pub pairs : map calls_of_pair (pairs_of w.calls) ≡ map (calls_of_edge p) (edges p)

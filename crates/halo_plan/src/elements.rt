@@ -69,8 +69,8 @@ impl HaloPlan {
         zero_all(&mut out[end..]);
     }
 
-    /// Gives the values of receive partition `q` of a message, without the padding, of the partition's bytes. Where these
-    /// are the partition of a message that was made of some rows, they are the rows' values.
+    /// Gives the values of receive partition `q` of a message, without the padding, of the partition's bytes. Where
+    /// these are the partition of a message that was made of some rows, they are the rows' values.
     pub fn decode_bytes(&self, q: u32, bytes: &[u8], out: &mut [i64])
         requires part { q < self.now.recv_parts }
         requires bytes { length bytes.now ≡ (shape_of self.now).recv_bytes }

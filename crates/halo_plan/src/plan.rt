@@ -1,12 +1,14 @@
 //! The plan.
 
-ghost use Rattle.std.specs.Prelude.{◌≡◌, ◌<◌, ◌≤◌, ◌+◌, ◌-◌, ◌*◌, ◌==◌, if◌then◌else◌, IsTrue, Ok, Some, true, length, slice_get, IfOk};
+ghost use Rattle.std.specs.Prelude.{◌≡◌, ◌<◌, ◌≤◌, ◌+◌, ◌-◌, ◌*◌, ◌==◌, if◌then◌else◌, IsTrue, Ok, Some, true};
+ghost use Rattle.std.specs.Prelude.{length, slice_get, IfOk};
 ghost use Rattle.part_geometry.specs.declared.TheConstants.{MAX_DEPTH, MAX_GRAIN, MAX_PARTS, MAX_RANKS};
 ghost use Rattle.part_geometry.specs.Shape.{IsShape, IsWithin, send_total};
 ghost use Rattle.stencil_def.specs.declared.limits.TheConstants.{MAX_CELLS};
 ghost use Rattle.stencil_def.specs.Limits.{IsSide};
 ghost use Rattle.halo_plan.specs.declared.TheConstants.{DOWN, ELEMENT_BYTES, UP};
-ghost use Rattle.halo_plan.specs.Plan.{IsPlan, block_of, cut_as, elements, first_row, is_shared, shape_of, shares_few, values};
+ghost use Rattle.halo_plan.specs.Plan.{IsPlan, block_of, cut_as, elements, first_row, is_shared, shape_of};
+ghost use Rattle.halo_plan.specs.Plan.{shares_few, values};
 ghost use Rattle.halo_plan.specs.Edges.{edges, goes_round};
 ghost use Rattle.halo_plan.specs.Making.{needs_more, plan_answer};
 
@@ -260,9 +262,9 @@ impl HaloPlan {
         }
     }
 
-    /// Edge `e`, in the order of the ranks: the last rows of rank 0 to rank 1, the first rows of rank 1 to rank 0, and so
-    /// on; at the end, where rows go round, the last rows of the last rank to rank 0, and the first rows of rank 0 to the
-    /// last rank.
+    /// Edge `e`, in the order of the ranks: the last rows of rank 0 to rank 1, the first rows of rank 1 to rank 0, and
+    /// so on; at the end, where rows go round, the last rows of the last rank to rank 0, and the first rows of rank 0 to
+    /// the last rank.
     pub fn edge(&self, e: u32) -> Edge
         requires { e < length (edges self.now) }
         ensures value { slice_get (edges self.now) e ≡ Some result }
@@ -280,8 +282,8 @@ impl HaloPlan {
         }
     }
 
-    /// How many elements a message has: the least number from that of its values on that is a multiple of the numbers of
-    /// partitions of both sides.
+    /// How many elements a message has: the least number from that of its values on that is a multiple of the numbers
+    /// of partitions of both sides.
     pub fn elements(&self) -> u32
         ensures value { result ≡ elements self.now }
         ensures enough { values self.now ≤ result }
