@@ -1,0 +1,5 @@
+use Rattle.pair_rule.specs.Seats.{IsOf}
+use Rattle.running_tests.proofs.sizes.take_all.Given as goal
+
+abbrev pub invariant-loop-q : goal.invariant-loop-q
+invariant-loop-q l = IsOf l.end.table l.end.view l.pair

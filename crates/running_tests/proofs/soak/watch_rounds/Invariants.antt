@@ -1,0 +1,5 @@
+use Rattle.pair_rule.specs.Seats.{IsOf}
+use Rattle.running_tests.proofs.soak.watch_rounds.Given as goal
+
+abbrev pub invariant-loop-i : goal.invariant-loop-i
+invariant-loop-i l = IsOf l.watcher.table l.watcher.view l.pair
