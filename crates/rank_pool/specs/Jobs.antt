@@ -26,7 +26,8 @@ module _ {J S : Type 0} (which : J → ℕ) (belongs : J → S → Type 0) where
   module _ (over : J → Bool) where
     -- each was entered, belongs where it should, and is over
     abbrev pub AllOver : List (ℕ × S) → List (Ticket J S) → Type 0
-    AllOver entered xs = (k : ℕ) (x : Ticket J S) → get_elem? xs k ≡ some x → IsListed entered x × (over x.job ≡ true)
+    AllOver entered xs = (k : ℕ) (x : Ticket J S) → get_elem? xs k ≡ some x
+        → IsListed entered x × (over x.job ≡ true)
 
     -- a worker: what its pass knows, beside the jobs that it has finished. It holds these
     pub record Works (shared : S) (v : Known (ℕ × S)) (finished : List (Ticket J S)) (held : List ℕ) : Type 0 where
@@ -38,10 +39,11 @@ module _ {J S : Type 0} (which : J → ℕ) (belongs : J → S → Type 0) where
       pub home : IsHome shared v.entered
 
     -- one worker of several, between two jobs: it has one part, and knows that these were entered
-    pub record Serves (shared : S) (entered : List (ℕ × S)) (v : Known (ℕ × S)) (finished : List (Ticket J S)) : Type 0 where
-      pub works : Works shared v finished []
-      pub one : v.parts ≡ 1
-      pub same : v.entered ≡ entered
+    pub record Serves (shared : S) (entered : List (ℕ × S)) (v : Known (ℕ × S)) (finished : List (Ticket J S)) : Type 0
+      where
+        pub works : Works shared v finished []
+        pub one : v.parts ≡ 1
+        pub same : v.entered ≡ entered
 
     -- the job that was entered as number k, over, and where it belongs
     pub record IsBack (shared : S) (entered : List (ℕ × S)) (k : ℕ) (j : J) : Type 0 where

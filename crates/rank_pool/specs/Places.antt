@@ -1,4 +1,5 @@
--- Where the jobs are: each number stands in the queue, with one worker or among the finished ones, and in no two places.
+-- Where the jobs are: each number stands in the queue, with one worker or among the finished ones,
+-- and in no two places.
 use Rattle.std.specs.Prelude.{◌≡◌, ℕ, zero, suc, ◌+◌, ◌<◌, List, [], ◌∷◌, length, map}
 use mathlib.Core.Option.{some}
 use lib.ListN.{get_elem?}
@@ -41,9 +42,11 @@ module _ {O : Type 0} where
 module _ {T O : Type 0} (all : ℕ) (number : T → ℕ) (origin : T → O) (belongs : T → Type 0) where
   -- what is in the queue was entered under its number, and belongs where it should
   abbrev pub Listed : List O → List T → Type 0
-  Listed entered items = (k : ℕ) (x : T) → get_elem? items k ≡ some x → (get_elem? entered (number x) ≡ some (origin x)) × belongs x
+  Listed entered items = (k : ℕ) (x : T) → get_elem? items k ≡ some x
+      → (get_elem? entered (number x) ≡ some (origin x)) × belongs x
 
-  -- however the numbers are weighed, those in the queue, held and finished weigh what the numbers of all that were entered do
+  -- however the numbers are weighed, those in the queue, held and finished weigh what the numbers of all that were
+  -- entered do: a number weighs 1, and all others nothing, in one place alone
   abbrev pub InOnePlace : List T → List (Known O) → Type 0
   InOnePlace items views =
       (entered : List O)

@@ -23,7 +23,8 @@ fn lay<J: Job>(
     requires home { IsHome J.which J.belongs shared.now (view pass.now).entered }
     requires slots { length slots.items ≡ length (view pass.now).entered }
     ensures len { length result.items ≡ length (view pass.now).entered }
-    ensures laid { (i : ℕ) (x : _) → get_elem? finished i ≡ some x → IsIn J.which J.belongs J.over shared.now (view pass.now).entered result.items x.number }
+    ensures laid { (i : ℕ) (x : _) → get_elem? finished i ≡ some x
+        → IsIn J.which J.belongs J.over shared.now (view pass.now).entered result.items x.number }
 {
     let _ = pass;
     let _ = shared;
@@ -36,10 +37,12 @@ fn lay<J: Job>(
 
 /// Takes the jobs out of the slots.
 fn take<J: Job>(pass: &JobPass<J>, shared: &J::Shared, slots: Vec<Option<J>>, out: Vec<J>) -> Vec<J>
-    requires slots { (k : ℕ) → k < length slots.items → IsIn J.which J.belongs J.over shared.now (view pass.now).entered slots.items k }
+    requires slots { (k : ℕ) → k < length slots.items
+        → IsIn J.which J.belongs J.over shared.now (view pass.now).entered slots.items k }
     requires out { (out.items ≡ []) × (length slots.items ≤ vec_capacity out) }
     ensures len { length result.items ≡ length slots.items }
-    ensures back { (k : ℕ) (j : J) → get_elem? result.items k ≡ some j → IsBack J.which J.belongs J.over shared.now (view pass.now).entered k j }
+    ensures back { (k : ℕ) (j : J) → get_elem? result.items k ≡ some j
+        → IsBack J.which J.belongs J.over shared.now (view pass.now).entered k j }
 {
     let _ = pass;
     let _ = shared;
@@ -68,7 +71,8 @@ pub fn in_order<J: Job>(
     requires slots { length slots.items ≡ length (view collector.pass).entered }
     requires out { (out.items ≡ []) × (length (view collector.pass).entered ≤ vec_capacity out) }
     ensures len { length result.items ≡ length (view collector.pass).entered }
-    ensures back { (k : ℕ) (j : J) → get_elem? result.items k ≡ some j → IsBack J.which J.belongs J.over shared.now (view collector.pass).entered k j }
+    ensures back { (k : ℕ) (j : J) → get_elem? result.items k ≡ some j
+        → IsBack J.which J.belongs J.over shared.now (view collector.pass).entered k j }
 {
     let Worker { mut pass, finished } = collector;
     queue.learn_as::<Whole<J>>(&mut pass);

@@ -72,7 +72,8 @@ fn settle<J: Job, G: Gate, R: Wait>(
     requires works { Works J.which J.belongs J.over shared.now (view collector.old.pass) collector.old.finished [] }
     ensures queue { IsPassOf queue.now collector.new.pass }
     ensures works { Works J.which J.belongs J.over shared.now (view collector.new.pass) collector.new.finished [] }
-    ensures same { ((view collector.new.pass).parts ≡ (view collector.old.pass).parts) × ((view collector.new.pass).entered ≡ (view collector.old.pass).entered) }
+    ensures same { ((view collector.new.pass).parts ≡ (view collector.old.pass).parts)
+        × ((view collector.new.pass).entered ≡ (view collector.old.pass).entered) }
     ensures all { length collector.new.finished ≡ count }
 {
     for _ in rt.forever() {

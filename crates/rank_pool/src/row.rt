@@ -1,5 +1,6 @@
 //! How the jobs are moved into tickets before a run, each in a block of memory of its own.
-ghost use Rattle.std.specs.Prelude.{◌≡◌, ◌≤◌, ◌+◌, ◌<◌, ◌^◌, [], ◌++◌, length, map, All, IfOk, OnOk, OnErr, vec_len, vec_capacity};
+ghost use Rattle.std.specs.Prelude.{◌≡◌, ◌≤◌, ◌+◌, ◌<◌, ◌^◌, [], ◌++◌, length, map, All, vec_len, vec_capacity};
+ghost use Rattle.std.specs.Prelude.{IfOk, OnOk, OnErr};
 ghost use Rattle.rank_pool.specs.Jobs.{Waits};
 
 use crate::job::Job;

@@ -28,7 +28,8 @@ impl<J: Job> Protocol<Parcel<J>, Known<Origin<J>>> for Shares<J> {
     ghost use Rattle.std.specs.Prelude.{[]};
     ghost use Rattle.rank_pool.specs.Places.{knows, every, InOnePlace};
 
-    ghost holds = { InOnePlace every (λ x. x.number) (λ x. (J.which x.job, x.home.value)) (λ x. J.belongs x.job x.home.value) };
+    ghost holds = { InOnePlace every (λ x. x.number) (λ x. (J.which x.job, x.home.value))
+        (λ x. J.belongs x.job x.home.value) };
 
     ghost first = { knows every [] [] [] };
 }
@@ -64,7 +65,8 @@ impl<J: Job> Outcome<Parcel<J>, Known<Origin<J>>> for Takes {
     ghost use lib.ListN.{get_elem?};
     ghost use Rattle.rank_pool.specs.Places.{knows};
 
-    ghost then = { λ v x w. (w ≡ knows v.parts v.entered (x.number ∷ v.held) v.done) × (get_elem? v.entered x.number ≡ some (J.which x.job, x.home.value)) × J.belongs x.job x.home.value };
+    ghost then = { λ v x w. (w ≡ knows v.parts v.entered (x.number ∷ v.held) v.done)
+        × (get_elem? v.entered x.number ≡ some (J.which x.job, x.home.value)) × J.belongs x.job x.home.value };
 }
 
 /// The jobs that are held are finished.
@@ -134,7 +136,8 @@ impl<J: Job> Lesson<Parcel<J>, Known<Origin<J>>> for Whole<J> {
     ghost use Rattle.std.specs.Prelude.{◌≡◌, ◌+◌, ℕ, map, length};
     ghost use Rattle.rank_pool.specs.Places.{weigh, below};
 
-    ghost fact = { λ v items. (h : ℕ → ℕ) → weigh h (map (λ x. x.number) items) + weigh h v.held + weigh h v.done ≡ below h (length v.entered) };
+    ghost fact = { λ v items. (h : ℕ → ℕ)
+        → weigh h (map (λ x. x.number) items) + weigh h v.held + weigh h v.done ≡ below h (length v.entered) };
 }
 
 /// The queue of jobs.

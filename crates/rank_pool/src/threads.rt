@@ -1,5 +1,6 @@
 //! How the jobs enter the queue, and how the workers get their passes, run, and come together again.
-ghost use Rattle.std.specs.Prelude.{◌≡◌, ◌<◌, ◌≤◌, ◌+◌, ◌-◌, ◌^◌, [], ℕ, ◌∷◌, ◌++◌, slice_index_or, length, map, All, vec_len, vec_capacity};
+ghost use Rattle.std.specs.Prelude.{◌≡◌, ◌<◌, ◌≤◌, ◌+◌, ◌-◌, ◌^◌, [], ℕ, ◌∷◌, ◌++◌};
+ghost use Rattle.std.specs.Prelude.{slice_index_or, length, map, All, vec_len, vec_capacity};
 ghost use Rattle.crossbeam_queue.specs.Passes.{view, IsPassOf};
 ghost use Rattle.rank_pool.specs.Places.{every, knows};
 ghost use Rattle.rank_pool.specs.Jobs.{IsHome, Serves, Waits, Works};
@@ -22,7 +23,9 @@ fn enter<J: Job, R: Wait>(rt: &R, queue: &JobQueue<J>, pass: &mut JobPass<J>, fi
     requires next { first.number ≡ length (view pass.old).entered }
     requires belongs { J.belongs first.job first.home.value }
     ensures queue { IsPassOf queue.now pass.new }
-    ensures view { view pass.new ≡ knows every ((view pass.old).entered ++ (J.which first.job, first.home.value) ∷ []) (view pass.old).held (view pass.old).done }
+    ensures view { view pass.new
+        ≡ knows every ((view pass.old).entered ++ (J.which first.job, first.home.value) ∷ []) (view pass.old).held
+        (view pass.old).done }
 {
     let mut ticket = first;
     for _ in rt.forever() {
@@ -71,9 +74,11 @@ pub fn deal<J: Job>(
     requires few { length (view pass.old).entered < 2 ^ 32 }
     requires home { IsHome J.which J.belongs shared.now (view pass.old).entered }
     ensures queue { IsPassOf queue.now pass.new }
-    ensures view { view pass.new ≡ knows ((view pass.old).parts - count) (view pass.old).entered (view pass.old).held (view pass.old).done }
+    ensures view { view pass.new
+        ≡ knows ((view pass.old).parts - count) (view pass.old).entered (view pass.old).held (view pass.old).done }
     ensures len { vec_len result ≡ count }
-    ensures workers { All (λ w. IsPassOf queue.now w.pass × Serves J.which J.belongs J.over shared.now (view pass.old).entered (view w.pass) w.finished) result.items }
+    ensures workers { All (λ w. IsPassOf queue.now w.pass
+        × Serves J.which J.belongs J.over shared.now (view pass.old).entered (view w.pass) w.finished) result.items }
 {
     let _ = shared;
     let mut workers = seats;
@@ -97,8 +102,15 @@ pub fn run_workers<J: Job, G: Gate, R: Threads + Wait + Sync>(
     count: u64,
 )
     requires some { 0 < length workers.old }
-    requires workers { All (λ w. IsPassOf queue.now w.pass × Works J.which J.belongs J.over shared.now (view w.pass) w.finished []) workers.old }
-    ensures workers { (k : ℕ) (d : _) → k < length workers.old → IsPassOf queue.now (slice_index_or workers.new k d).pass × Works J.which J.belongs J.over shared.now (view (slice_index_or workers.new k d).pass) (slice_index_or workers.new k d).finished [] × ((view (slice_index_or workers.new k d).pass).parts ≡ (view (slice_index_or workers.old k d).pass).parts) × ((view (slice_index_or workers.new k d).pass).entered ≡ (view (slice_index_or workers.old k d).pass).entered) }
+    requires workers { All (λ w. IsPassOf queue.now w.pass
+        × Works J.which J.belongs J.over shared.now (view w.pass) w.finished []) workers.old }
+    ensures workers { (k : ℕ) (d : _) → k < length workers.old
+        → IsPassOf queue.now (slice_index_or workers.new k d).pass
+        × Works J.which J.belongs J.over shared.now (view (slice_index_or workers.new k d).pass)
+        (slice_index_or workers.new k d).finished []
+        × ((view (slice_index_or workers.new k d).pass).parts ≡ (view (slice_index_or workers.old k d).pass).parts)
+        × ((view (slice_index_or workers.new k d).pass).entered
+        ≡ (view (slice_index_or workers.old k d).pass).entered) }
 {
     let threads = workers.len();
     let claimed = AtomicU64::new(threads as u64);
@@ -108,8 +120,13 @@ pub fn run_workers<J: Job, G: Gate, R: Threads + Wait + Sync>(
         workers,
         threads,
         &|_, worker: &mut Worker<J>|
-            requires { IsPassOf queue.now worker.now.pass × Works J.which J.belongs J.over shared.now (view worker.now.pass) worker.now.finished [] }
-            ensures { IsPassOf queue.entry.now worker.exit.now.pass × Works J.which J.belongs J.over shared.entry.now (view worker.exit.now.pass) worker.exit.now.finished [] × ((view worker.exit.now.pass).parts ≡ (view worker.entry.now.pass).parts) × ((view worker.exit.now.pass).entered ≡ (view worker.entry.now.pass).entered) }
+            requires { IsPassOf queue.now worker.now.pass
+                × Works J.which J.belongs J.over shared.now (view worker.now.pass) worker.now.finished [] }
+            ensures { IsPassOf queue.entry.now worker.exit.now.pass
+                × Works J.which J.belongs J.over shared.entry.now (view worker.exit.now.pass)
+                worker.exit.now.finished []
+                × ((view worker.exit.now.pass).parts ≡ (view worker.entry.now.pass).parts)
+                × ((view worker.exit.now.pass).entered ≡ (view worker.entry.now.pass).entered) }
         { work(rt, queue, worker, shared, gate, claims, count) },
     );
 }
@@ -123,7 +140,9 @@ pub fn gather<J: Job>(
 )
     requires queue { IsPassOf queue.now collector.old.pass }
     requires works { Works J.which J.belongs J.over shared.now (view collector.old.pass) collector.old.finished [] }
-    requires workers { All (λ w. IsPassOf queue.now w.pass × Serves J.which J.belongs J.over shared.now (view collector.old.pass).entered (view w.pass) w.finished) workers.items }
+    requires workers { All (λ w. IsPassOf queue.now w.pass
+        × Serves J.which J.belongs J.over shared.now (view collector.old.pass).entered (view w.pass) w.finished)
+        workers.items }
     ensures queue { IsPassOf queue.now collector.new.pass }
     ensures works { Works J.which J.belongs J.over shared.now (view collector.new.pass) collector.new.finished [] }
     ensures parts { (view collector.new.pass).parts ≡ (view collector.old.pass).parts + vec_len workers }

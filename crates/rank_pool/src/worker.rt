@@ -26,12 +26,14 @@ fn finish<J: Job>(
     shared: &J::Shared,
 )
     requires queue { IsPassOf queue.now worker.old.pass }
-    requires works { Works J.which J.belongs J.over shared.now (view worker.old.pass) worker.old.finished (ticket.number ∷ []) }
+    requires works { Works J.which J.belongs J.over shared.now (view worker.old.pass) worker.old.finished
+        (ticket.number ∷ []) }
     requires listed { IsListed J.which J.belongs (view worker.old.pass).entered ticket }
     requires over { J.over ticket.job ≡ true }
     ensures queue { IsPassOf queue.now worker.new.pass }
     ensures works { Works J.which J.belongs J.over shared.now (view worker.new.pass) worker.new.finished [] }
-    ensures same { ((view worker.new.pass).parts ≡ (view worker.old.pass).parts) × ((view worker.new.pass).entered ≡ (view worker.old.pass).entered) }
+    ensures same { ((view worker.new.pass).parts ≡ (view worker.old.pass).parts)
+        × ((view worker.new.pass).entered ≡ (view worker.old.pass).entered) }
 {
     let _ = shared;
     queue.learn_as::<Room>(&mut worker.pass);
@@ -49,11 +51,13 @@ fn carry<J: Job, G: Gate, R: Wait>(
     gate: &G,
 ) -> bool
     requires queue { IsPassOf queue.now worker.old.pass }
-    requires works { Works J.which J.belongs J.over shared.now (view worker.old.pass) worker.old.finished (first.number ∷ []) }
+    requires works { Works J.which J.belongs J.over shared.now (view worker.old.pass) worker.old.finished
+        (first.number ∷ []) }
     requires listed { IsListed J.which J.belongs (view worker.old.pass).entered first }
     ensures queue { IsPassOf queue.now worker.new.pass }
     ensures works { Works J.which J.belongs J.over shared.now (view worker.new.pass) worker.new.finished [] }
-    ensures same { ((view worker.new.pass).parts ≡ (view worker.old.pass).parts) × ((view worker.new.pass).entered ≡ (view worker.old.pass).entered) }
+    ensures same { ((view worker.new.pass).parts ≡ (view worker.old.pass).parts)
+        × ((view worker.new.pass).entered ≡ (view worker.old.pass).entered) }
 {
     let mut ticket = first;
     for _ in rt.forever() {
@@ -83,7 +87,8 @@ pub fn serve<J: Job, G: Gate, R: Wait>(
     requires works { Works J.which J.belongs J.over shared.now (view worker.old.pass) worker.old.finished [] }
     ensures queue { IsPassOf queue.now worker.new.pass }
     ensures works { Works J.which J.belongs J.over shared.now (view worker.new.pass) worker.new.finished [] }
-    ensures same { ((view worker.new.pass).parts ≡ (view worker.old.pass).parts) × ((view worker.new.pass).entered ≡ (view worker.old.pass).entered) }
+    ensures same { ((view worker.new.pass).parts ≡ (view worker.old.pass).parts)
+        × ((view worker.new.pass).entered ≡ (view worker.old.pass).entered) }
 {
     match queue.pop_as::<Takes, R>(rt, &mut worker.pass) {
         Some(ticket) => carry(rt, queue, worker, ticket, shared, gate),
@@ -110,7 +115,8 @@ pub fn work<J: Job, G: Gate, R: Wait>(
     requires works { Works J.which J.belongs J.over shared.now (view worker.old.pass) worker.old.finished [] }
     ensures queue { IsPassOf queue.now worker.new.pass }
     ensures works { Works J.which J.belongs J.over shared.now (view worker.new.pass) worker.new.finished [] }
-    ensures same { ((view worker.new.pass).parts ≡ (view worker.old.pass).parts) × ((view worker.new.pass).entered ≡ (view worker.old.pass).entered) }
+    ensures same { ((view worker.new.pass).parts ≡ (view worker.old.pass).parts)
+        × ((view worker.new.pass).entered ≡ (view worker.old.pass).entered) }
 {
     for _ in rt.forever() {
         if serve(rt, queue, worker, shared, gate)
