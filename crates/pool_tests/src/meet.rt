@@ -1,10 +1,12 @@
 //! Two first turns that meet at the gate: neither ends before the other has begun, so two threads give them.
 
 use rank_pool::{Gate, Job, JobTurn, OpenGate, run_pool};
-use std::alloc::AllocError;
+use std::alloc::{AllocError, Global};
+use std::sync::Wait;
 use std::sync::atomic::{AtomicU64, Ordering};
 use std::test::Fail;
 use std::thread;
+use std::thread::Threads;
 
 const TRIES: u64 = 100_000_000;
 
@@ -88,14 +90,18 @@ impl Gate for Meet {
 }
 
 /// Runs the three jobs by two workers behind a gate. Answers what came back, as names and turns that are left.
-fn three_jobs<G: Gate>(rt: &HostRuntime, gate: &G) -> Result<Vec<(u32, u32)>, AllocError> {
-    let jobs = vec![in rt.alloc();
+fn three_jobs<G: Gate, R: Threads + Wait + Sync>(
+    rt: &R,
+    alloc: Global,
+    gate: &G,
+) -> Result<Vec<(u32, u32)>, AllocError> {
+    let jobs = vec![in alloc;
         Short { name: 10, left: 5 },
         Short { name: 11, left: 1 },
         Short { name: 12, left: 2 },
     ]?;
-    let mut back = Vec::new(rt.alloc());
-    if let Ok(jobs) = run_pool(rt, rt.alloc(), jobs, &Nothing, 2, gate) {
+    let mut back = Vec::new(alloc);
+    if let Ok(jobs) = run_pool(rt, alloc, jobs, &Nothing, 2, gate) {
         for job in jobs {
             back.push((job.name, job.left))?;
         }
@@ -105,7 +111,7 @@ fn three_jobs<G: Gate>(rt: &HostRuntime, gate: &G) -> Result<Vec<(u32, u32)>, Al
 
 #[test]
 fn three_jobs_come_back_over(rt: HostRuntime) -> Result<(), Fail> {
-    let back = three_jobs(&rt, &OpenGate)?;
+    let back = three_jobs(&rt, rt.alloc(), &OpenGate)?;
     assert_eq!(rt; back.as_slice(), [(10, 0), (11, 0), (12, 0)].as_slice());
     Ok(())
 }
@@ -117,9 +123,12 @@ fn each_two_of_three_first_turns_meet(rt: HostRuntime) -> Result<(), Fail> {
             one: Comer::new(one),
             two: Comer::new(two),
         };
-        let back = three_jobs(&rt, &gate)?;
+        let back = three_jobs(&rt, rt.alloc(), &gate)?;
         let tries = [&gate.one, &gate.two].map(|comer| comer.tries.load(Ordering::SeqCst) < TRIES);
-        assert_eq!(rt; (back.as_slice(), tries), ([(10, 0), (11, 0), (12, 0)].as_slice(), [true; 2]));
+        assert_eq!(rt;
+            (back.as_slice(), tries),
+            ([(10, 0), (11, 0), (12, 0)].as_slice(), [true; 2])
+        );
     }
     Ok(())
 }

@@ -27,7 +27,14 @@ fn lengths(alloc: Global, jobs: u32) -> Result<Vec<u64>, AllocError> {
 
 #[test]
 fn each_job_is_over_once_and_in_its_place(rt: HostRuntime) -> Result<(), Fail> {
-    for (jobs, workers) in [(1000u32, 1u32), (1000, 3), (1000, 16), (0, 2), (1, 16), (16, 16)] {
+    for (jobs, workers) in [
+        (1000u32, 1u32),
+        (1000, 3),
+        (1000, 16),
+        (0, 2),
+        (1, 16),
+        (16, 16),
+    ] {
         let lengths = lengths(rt.alloc(), jobs)?;
         let ledger = Ledger::new(rt.alloc(), jobs)?;
         let mut list = Vec::new(rt.alloc());
@@ -42,7 +49,11 @@ fn each_job_is_over_once_and_in_its_place(rt: HostRuntime) -> Result<(), Fail> {
         let mut right = 0;
         for (job, length) in back.into_iter().zip(&lengths) {
             let turns = (*length).max(1);
-            if job.name == right && job.left == 0 && job.had == turns && ledger.begun(right) == turns {
+            if job.name == right
+                && job.left == 0
+                && job.had == turns
+                && ledger.begun(right) == turns
+            {
                 right += 1;
             }
         }

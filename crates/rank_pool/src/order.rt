@@ -57,7 +57,7 @@ fn take<J: Job>(pass: &JobPass<J>, shared: &J::Shared, slots: Vec<Option<J>>, ou
 }
 
 /// The jobs in the order in which they were entered, where all are finished.
-pub fn in_order<J: Job>(
+pub(crate) fn in_order<J: Job>(
     queue: &JobQueue<J>,
     collector: Worker<J>,
     shared: &J::Shared,

@@ -21,7 +21,7 @@ fn put_back<J: Job>(jobs: &mut Vec<J>, row: LinkedList<Ticket<J>>)
 
 /// Moves the jobs into tickets, numbered by their places in the list. Where there is no memory for them all, the list
 /// has all jobs again.
-pub fn into_row<J: Job>(
+pub(crate) fn into_row<J: Job>(
     alloc: Global,
     jobs: &mut Vec<J>,
     shared: &J::Shared,

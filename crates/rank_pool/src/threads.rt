@@ -38,7 +38,7 @@ fn enter<J: Job, R: Wait>(rt: &R, queue: &JobQueue<J>, pass: &mut JobPass<J>, fi
 }
 
 /// Puts all jobs of a row into the queue, under their places in the list.
-pub fn enter_all<J: Job, R: Wait>(
+pub(crate) fn enter_all<J: Job, R: Wait>(
     rt: &R,
     queue: &JobQueue<J>,
     pass: &mut JobPass<J>,
@@ -60,7 +60,7 @@ pub fn enter_all<J: Job, R: Wait>(
 }
 
 /// As many workers as are asked for, each with a pass of its own.
-pub fn deal<J: Job>(
+pub(crate) fn deal<J: Job>(
     alloc: Global,
     queue: &JobQueue<J>,
     pass: &mut JobPass<J>,
@@ -93,7 +93,7 @@ pub fn deal<J: Job>(
 }
 
 /// Each worker works, in a thread of its own where one can be made, and else in this one.
-pub fn run_workers<J: Job, G: Gate, R: Threads + Wait + Sync>(
+pub(crate) fn run_workers<J: Job, G: Gate, R: Threads + Wait + Sync>(
     rt: &R,
     queue: &JobQueue<J>,
     workers: &mut [Worker<J>],
@@ -132,7 +132,7 @@ pub fn run_workers<J: Job, G: Gate, R: Threads + Wait + Sync>(
 }
 
 /// The workers' passes and finished jobs join the collector's.
-pub fn gather<J: Job>(
+pub(crate) fn gather<J: Job>(
     queue: &JobQueue<J>,
     collector: &mut Worker<J>,
     workers: Vec<Worker<J>>,

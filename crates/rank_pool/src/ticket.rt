@@ -1,5 +1,5 @@
 //! What goes through the queue: a job with its numbers, in a block of memory of its own.
-ghost use Rattle.std.specs.Prelude.{◌≡◌, ◌∷◌, ◌++◌, [], ◌<◌, ◌^◌, if◌then◌else◌, length};
+ghost use Rattle.std.specs.Prelude.{◌≡◌, ◌∷◌, ◌++◌, [], ◌<◌, ◌+◌, ◌-◌, ◌^◌, min, if◌then◌else◌, length};
 
 use crate::job::{Gate, Job, JobTurn};
 use std::collections::LinkedList;
@@ -20,6 +20,7 @@ impl<J: Job> Ticket<J> {
     fn take_turn<G: Gate>(&mut self, shared: &J::Shared, gate: &G) -> JobTurn
         requires { J.belongs self.old.job shared.now }
         ensures same { (self.new.number ≡ self.old.number) × (self.new.home ≡ self.old.home) }
+        ensures turn { self.new.turn ≡ min (self.old.turn + 1) (2 ^ 64 - 1) }
         ensures belongs { J.belongs self.new.job shared.now }
         ensures which { J.which self.new.job ≡ J.which self.old.job }
         ensures over { result ≡ (if J.over self.new.job then JobTurn.Over else JobTurn.More) }
@@ -51,7 +52,7 @@ impl<J: Job> Model for Parcel<J> {
 
 impl<J: Job> Parcel<J> {
     /// The first ticket of a row, in its block.
-    pub fn unchain(row: &mut LinkedList<Ticket<J>>) -> Parcel<J>
+    pub(crate) fn unchain(row: &mut LinkedList<Ticket<J>>) -> Parcel<J>
         requires some { 0 < length row.old }
         ensures { row.old ≡ result ∷ row.new }
     {
@@ -63,7 +64,7 @@ impl<J: Job> Parcel<J> {
     }
 
     /// Puts the ticket behind a row.
-    pub fn chain(self, row: &mut LinkedList<Ticket<J>>)
+    pub(crate) fn chain(self, row: &mut LinkedList<Ticket<J>>)
         requires short { length row.old < 2 ^ 62 }
         ensures { row.new ≡ row.old ++ self ∷ [] }
     {
@@ -77,9 +78,10 @@ impl<J: Job> Parcel<J> {
     }
 
     /// Gives the job its next turn, behind the gate.
-    pub fn take_turn<G: Gate>(&mut self, shared: &J::Shared, gate: &G) -> JobTurn
+    pub(crate) fn take_turn<G: Gate>(&mut self, shared: &J::Shared, gate: &G) -> JobTurn
         requires { J.belongs self.old.job shared.now }
         ensures same { (self.new.number ≡ self.old.number) × (self.new.home ≡ self.old.home) }
+        ensures turn { self.new.turn ≡ min (self.old.turn + 1) (2 ^ 64 - 1) }
         ensures belongs { J.belongs self.new.job shared.now }
         ensures which { J.which self.new.job ≡ J.which self.old.job }
         ensures over { result ≡ (if J.over self.new.job then JobTurn.Over else JobTurn.More) }

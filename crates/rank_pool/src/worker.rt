@@ -76,7 +76,7 @@ fn carry<J: Job, G: Gate, R: Wait>(
 }
 
 /// Takes the job at the front of the queue and gives it a turn. Answers whether it has finished a job by that.
-pub fn serve<J: Job, G: Gate, R: Wait>(
+pub(crate) fn serve<J: Job, G: Gate, R: Wait>(
     rt: &R,
     queue: &JobQueue<J>,
     worker: &mut Worker<J>,
@@ -102,7 +102,7 @@ pub fn serve<J: Job, G: Gate, R: Wait>(
 /// Serves until a job ends and all the others have a worker. `claimed` counts the jobs that have one: each worker
 /// begins with one of them, and claims another whenever it has finished one. So there are never more workers than
 /// jobs that are not over, and no worker has to look for work.
-pub fn work<J: Job, G: Gate, R: Wait>(
+pub(crate) fn work<J: Job, G: Gate, R: Wait>(
     rt: &R,
     queue: &JobQueue<J>,
     worker: &mut Worker<J>,
