@@ -1,7 +1,9 @@
 //! Lists of events: what is told of them is what their walk and their replay give, event by event.
 
-use crate::events::{both_rounds, two_and_one};
-use event_check::{Applied, CheckFault, MAX_CHECK_BYTES, Walk, check_events, read_number};
+use crate::events::{both_rounds, event, two_and_one};
+use event_check::{
+    Applied, CheckFault, MAX_CHECK_BYTES, Walk, WalkFault, check_events, read_number,
+};
 use pair_core::{Event, Replay, replay};
 use part_geometry::Geometry;
 use std::alloc::{AllocError, Global};
@@ -97,6 +99,44 @@ fn random_lists_are_told_as_they_are_replayed(rt: HostRuntime) -> Result<(), Fai
         }
     }
     Ok(())
+}
+
+#[test]
+fn a_walk_tells_what_each_event_did(rt: HostRuntime) {
+    let geometry = Geometry::new(1, 1, 1, 1, 1, 1).expect(&rt, "within the limits");
+    let mut walk = Walk::new(rt.alloc(), geometry).expect(&rt, "enough memory");
+    let quiet = Ok(Applied {
+        out: None,
+        take: None,
+    });
+    let sent = Ok(Applied {
+        out: Some((1, 0)),
+        take: None,
+    });
+    let taken = Ok(Applied {
+        out: None,
+        take: Some((1, 0)),
+    });
+    // The claim word is 0, the take word 2, the return word 3, and the piece word 4. A take that isn't allowed leaves
+    // the walk as it was: after the look it is.
+    let steps = [
+        (event(0, 1, 4, 1, 0), quiet),
+        (event(0, 2, 0, 1, 0), quiet),
+        (event(2, 3, 0, 0, 0), quiet),
+        (event(2, 7, 0, 0, 0), quiet),
+        (event(2, 8, 4, 0, 0), sent),
+        (event(1, 9, 3, 1, 0), quiet),
+        (event(1, 10, 2, 1, 0), quiet),
+        (event(1, 11, 2, 0, 0), Err(WalkFault::NotAllowed)),
+        (event(1, 4, 4, 0, 0), quiet),
+        (event(1, 11, 2, 0, 0), taken),
+        (event(1, 11, 2, 0, 0), Err(WalkFault::NotAllowed)),
+        (event(66, 3, 0, 0, 0), quiet),
+        (event(2, 14, 0, 0, 0), Err(WalkFault::NotAllowed)),
+    ];
+    for (event, wanted) in steps {
+        assert_eq!(rt; walk.apply(&event), wanted);
+    }
 }
 
 #[test]

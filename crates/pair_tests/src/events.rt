@@ -5,7 +5,7 @@ use part_geometry::Geometry;
 use std::process::Abort;
 
 /// A step of a seat on a word, in a round or of a partition.
-fn event(seat: u32, kind: u32, word: u32, round: u32, partition: u32) -> Event {
+pub(crate) fn event(seat: u32, kind: u32, word: u32, round: u32, partition: u32) -> Event {
     Event {
         seat,
         kind,
