@@ -10,11 +10,12 @@ use std::sync::Mutex;
 use std::thread;
 use std::time::Instant;
 
-#[derive(Clone, Copy, PartialEq)]
+#[derive(Clone, Copy)]
 enum Kind {
     Empty,
     Work,
-    Wait,
+    Halo,
+    Spin,
 }
 
 struct Job {
@@ -25,7 +26,7 @@ struct Job {
 }
 
 fn churn(mut x: u64) -> u64 {
-    for _ in 0..400 {
+    for _ in 0..1600 {
         x ^= x << 13;
         x ^= x >> 7;
         x ^= x << 17;
@@ -33,43 +34,56 @@ fn churn(mut x: u64) -> u64 {
     black_box(x)
 }
 
+// How many steps each job has made.
+struct Steps(Vec<AtomicU64>);
+
+impl Steps {
+    fn at(&self, place: u64) -> u64 {
+        self.0.get(place as usize).map_or(u64::MAX, |steps| steps.load(SeqCst))
+    }
+
+    fn may_step(&self, place: u64) -> bool {
+        let made = self.at(place);
+        self.at(place.wrapping_sub(1)) >= made && self.at(place.wrapping_add(1)) >= made
+    }
+}
+
 impl Job {
-    fn moves(&mut self, next: &AtomicU64, jobs: u64) -> bool {
+    fn moves(&mut self, steps: &Steps) -> bool {
         match self.kind {
             Kind::Empty => true,
             Kind::Work => {
                 self.word = churn(self.word);
                 true
             }
-            Kind::Wait => {
-                let here = next.load(SeqCst) == self.place;
-                if here {
-                    next.store(if self.place + 1 < jobs { self.place + 1 } else { 0 }, SeqCst);
-                } else {
+            Kind::Halo | Kind::Spin => {
+                let may = steps.may_step(self.place);
+                if may {
+                    self.word = churn(self.word);
+                    steps.0[self.place as usize].fetch_add(1, SeqCst);
+                } else if matches!(self.kind, Kind::Halo) {
                     thread::yield_now();
                 }
-                here
+                may
             }
         }
     }
 
     // Whether the job is over.
-    fn turn(&mut self, next: &AtomicU64, jobs: u64) -> bool {
-        if self.left > 0 && self.moves(next, jobs) {
+    fn turn(&mut self, steps: &Steps) -> bool {
+        if self.left > 0 && self.moves(steps) {
             self.left -= 1;
         }
         self.left == 0
     }
 }
 
-fn work(queue: &Mutex<VecDeque<Job>>, left: &AtomicUsize, next: &AtomicU64, jobs: u64, turns: &AtomicU64) {
-    let mut given = 0;
+fn work(queue: &Mutex<VecDeque<Job>>, left: &AtomicUsize, steps: &Steps) {
     while left.load(SeqCst) > 0 {
         let job = queue.lock().unwrap().pop_front();
         match job {
             Some(mut job) => {
-                given += 1;
-                if job.turn(next, jobs) {
+                if job.turn(steps) {
                     left.fetch_sub(1, SeqCst);
                 } else {
                     queue.lock().unwrap().push_back(job);
@@ -78,14 +92,14 @@ fn work(queue: &Mutex<VecDeque<Job>>, left: &AtomicUsize, next: &AtomicU64, jobs
             None => thread::yield_now(),
         }
     }
-    turns.fetch_add(given, SeqCst);
 }
 
 fn main() {
     let words: Vec<String> = std::env::args().skip(1).collect();
     let kind = match words[0].as_str() {
         "work" | "long" => Kind::Work,
-        "wait" => Kind::Wait,
+        "halo" => Kind::Halo,
+        "spin" => Kind::Spin,
         _ => Kind::Empty,
     };
     let (jobs, turns): (u64, u64) = (words[1].parse().unwrap(), words[2].parse().unwrap());
@@ -98,10 +112,10 @@ fn main() {
         .collect();
     let start = Instant::now();
     let (queue, left) = (Mutex::new(list), AtomicUsize::new(jobs as usize));
-    let (next, given) = (AtomicU64::new(0), AtomicU64::new(0));
+    let steps = Steps((0..jobs).map(|_| AtomicU64::new(0)).collect());
     thread::scope(|scope| {
         for _ in 0..workers.min(jobs) {
-            scope.spawn(|| work(&queue, &left, &next, jobs, &given));
+            scope.spawn(|| work(&queue, &left, &steps));
         }
     });
     eprintln!("{}", start.elapsed().as_nanos());

@@ -1,9 +1,9 @@
 //! `poolrate`: how many turns a second a pool gives. Its words are a kind of job, how many jobs, how many turns each
 //! has, and how many workers. It prints the turns, and on standard error the nanoseconds that they took.
 //!
-//! Kinds: `empty` (a turn does nothing), `work` (a turn takes about a microsecond), `long` (the same, but all jobs but
-//! the first have a hundredth of the turns), `wait` (the jobs move in a ring, one after another; a turn of a job whose
-//! turn it isn't yields).
+//! Kinds: `empty` (a turn does nothing), `work` (a turn takes some microseconds), `long` (the same, but all jobs but the
+//! first have a hundredth of the turns), `halo` (a job moves once its neighbours in the list have made as many steps,
+//! and a turn that has to wait yields), `spin` (the same, without a yield).
 #![tactic(auto)]
 
 ghost use Rattle.std.specs.Prelude.{◌≡◌};
@@ -21,14 +21,44 @@ use std::{env, hint, io, thread};
 enum Kind {
     Empty,
     Work,
-    Wait,
+    Halo,
+    Spin,
 }
 
-/// The place in the ring that moves next.
+/// How many steps each job has made.
 #[derive(Drop)]
-struct Ring {
-    jobs: u64,
-    next: AtomicU64,
+struct Steps {
+    made: Vec<AtomicU64>,
+}
+
+impl Steps {
+    fn new(alloc: Global, jobs: u64) -> Result<Steps, AllocError> {
+        let mut made = Vec::new(alloc);
+        for _ in 0..jobs {
+            made.push(AtomicU64::new(0))?;
+        }
+        Ok(Steps { made })
+    }
+
+    /// How many steps the job at this place has made. Where there is none, it holds nobody up.
+    fn at(&self, place: u64) -> u64 {
+        match self.made.as_slice().get(place as usize) {
+            Some(steps) => steps.load(Ordering::SeqCst),
+            None => u64::MAX,
+        }
+    }
+
+    /// Whether the neighbours of this job have made as many steps as it has.
+    fn may_step(&self, place: u64) -> bool {
+        let made = self.at(place);
+        self.at(place.wrapping_sub(1)) >= made && self.at(place.wrapping_add(1)) >= made
+    }
+
+    fn note(&self, place: u64) {
+        if let Some(steps) = self.made.as_slice().get(place as usize) {
+            steps.fetch_add(1, Ordering::SeqCst);
+        }
+    }
 }
 
 #[derive(Drop)]
@@ -39,10 +69,10 @@ struct Rated {
     word: u64,
 }
 
-/// Takes about a microsecond.
+/// Takes some microseconds.
 fn churn(word: u64) -> u64 {
     let mut x = word;
-    for _ in 0..400 {
+    for _ in 0..1600 {
         x ^= x << 13;
         x ^= x >> 7;
         x ^= x << 17;
@@ -52,7 +82,7 @@ fn churn(word: u64) -> u64 {
 
 impl Rated {
     /// Whether this turn moves the job.
-    fn moves(&mut self, ring: &Ring) -> bool
+    fn moves(&mut self, steps: &Steps) -> bool
         ensures place { self.new.place ≡ self.old.place }
         ensures left { self.new.left ≡ self.old.left }
     {
@@ -62,23 +92,29 @@ impl Rated {
                 self.word = churn(self.word);
                 true
             }
-            Kind::Wait => {
-                let here = ring.next.load(Ordering::SeqCst) == self.place;
-                if here {
-                    let after = self.place.wrapping_add(1);
-                    let next = if after < ring.jobs { after } else { 0 };
-                    ring.next.store(next, Ordering::SeqCst);
-                } else {
-                    thread::yield_now();
-                }
-                here
-            }
+            Kind::Halo => self.steps_on(steps, true),
+            Kind::Spin => self.steps_on(steps, false),
         }
+    }
+
+    /// Makes a step, if the neighbours let it.
+    fn steps_on(&mut self, steps: &Steps, yields: bool) -> bool
+        ensures place { self.new.place ≡ self.old.place }
+        ensures left { self.new.left ≡ self.old.left }
+    {
+        let may = steps.may_step(self.place);
+        if may {
+            self.word = churn(self.word);
+            steps.note(self.place);
+        } else if yields {
+            thread::yield_now();
+        }
+        may
     }
 }
 
 impl Job for Rated {
-    type Shared = Ring;
+    type Shared = Steps;
 
     ghost use Rattle.std.specs.Prelude.{nat_eq};
 
@@ -88,8 +124,8 @@ impl Job for Rated {
 
     ghost belongs = { λ s shared. Unit {0} };
 
-    fn turn(&mut self, ring: &Ring) -> JobTurn {
-        if self.left > 0 && self.moves(ring) {
+    fn turn(&mut self, steps: &Steps) -> JobTurn {
+        if self.left > 0 && self.moves(steps) {
             self.left -= 1;
         }
         if self.left == 0 {
@@ -124,7 +160,8 @@ fn plan_of(words: &[String]) -> Plan {
     };
     let kind = match name {
         "work" | "long" => Kind::Work,
-        "wait" => Kind::Wait,
+        "halo" => Kind::Halo,
+        "spin" => Kind::Spin,
         _ => Kind::Empty,
     };
     let turns = number(words, 2);
@@ -165,12 +202,9 @@ fn timed<R: Threads + Wait + Sync + Clock>(
     if list.len() > 1_000_000 || plan.workers == 0 {
         return Ok((0, 0));
     }
-    let ring = Ring {
-        jobs: plan.jobs,
-        next: AtomicU64::new(0),
-    };
+    let steps = Steps::new(alloc, plan.jobs)?;
     let start = Instant::now(rt)?;
-    let back = match run_pool(rt, alloc, list, &ring, plan.workers, &OpenGate) {
+    let back = match run_pool(rt, alloc, list, &steps, plan.workers, &OpenGate) {
         Ok(back) => back.len(),
         Err(_) => 0,
     };

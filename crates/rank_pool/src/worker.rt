@@ -61,7 +61,7 @@ fn carry<J: Job, G: Gate, R: Wait>(
 {
     let mut ticket = first;
     for _ in rt.forever() {
-        match ticket.take_turn(shared, gate) {
+        match ticket.take_turns(shared, gate) {
             JobTurn::Over => {
                 finish(queue, worker, ticket, shared);
                 return true;

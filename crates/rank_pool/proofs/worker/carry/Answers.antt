@@ -5,8 +5,8 @@ use Rattle.rank_pool.proofs.worker.carry.Goals as goal
 pub push_as-requires-clause-rule : goal.push_as-requires-clause-rule
 push_as-requires-clause-rule g c =
     let w = c.loop.invariant.works in
-    let t = c.take_turn.ensures in
-    let listed = turned g.J.Job.which g.J.Job.belongs _ _ c.loop.ticket c.take_turn.new.self w.home c.loop.invariant.listed t.same.0 t.same.1 t.belongs t.which in
+    let t = c.take_turns.ensures in
+    let listed = turned g.J.Job.which g.J.Job.belongs _ _ c.loop.ticket c.take_turns.new.self w.home c.loop.invariant.listed t.same.0 t.same.1 t.belongs t.which in
     (puts g.J.Job.which g.J.Job.belongs _ _ _ _ w.part (w.holds ∙ ap (λ n. n ∷ []) (sym t.same.0)) listed, λ items views h at. tt)
 
 pub returns-in-Ok-clause-works : goal.returns-in-Ok-clause-works
