@@ -34,9 +34,9 @@ fn tell(alloc: Global, geometry: Geometry, events: &[Event]) -> Result<Vec<u8>, 
 }
 
 /// Reads a list of events, makes one after the other up to the first that isn't allowed, and tells what they did (MPI
-/// 4.0, chapter 4, by the atomic steps of `pair_core`): a line `out K I` for each piece I of round K that went out and a
-/// line `take K Q` for each receive partition Q that was taken in round K, in order, and then `ran N` with the number of
-/// events, or `stopped AT` with the place, counted from 0, of the first that isn't allowed.
+/// 4.0, chapter 4, by the atomic steps of `pair_core`): a line `out K I` for each piece I of round K that went out
+/// and a line `take K Q` for each receive partition Q that was taken in round K, in order, and then `ran N` with the
+/// number of events, or `stopped AT` with the place, counted from 0, of the first that isn't allowed.
 ///
 /// Lines end by LF, which the last one may lack; a CR at the end of a line is dropped; words stand between spaces and
 /// tabs; a line without words is skipped, and so is one that begins with `#`. The first line is `pair` with the six

@@ -63,6 +63,7 @@ impl HaloPlan {
         requires bytes { length out.old ≡ elements self.now * ELEMENT_BYTES }
         ensures { out.new ≡ encoded self.now rows.now }
     {
+        // The message has room for the values, for the proof.
         let _elements = self.elements();
         let end = rows.len() * SIZE;
         encode_all(rows, &mut out[..end]);
@@ -82,7 +83,9 @@ impl HaloPlan {
     {
         // The plan's cut of the message, for the proof.
         let _geometry = self.geometry();
+        // How many elements there are, for the proof.
         let _elements = self.elements();
+        // The partition has room for its values, for the proof.
         let _part = self.part(q);
         decode_all(bytes, out);
     }

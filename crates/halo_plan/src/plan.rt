@@ -262,9 +262,9 @@ impl HaloPlan {
         }
     }
 
-    /// Edge `e`, in the order of the ranks: the last rows of rank 0 to rank 1, the first rows of rank 1 to rank 0, and
-    /// so on; at the end, where rows go round, the last rows of the last rank to rank 0, and the first rows of rank 0 to
-    /// the last rank.
+    /// Edge `e`, in the order of the ranks: the last rows of rank 0 to rank 1, the first rows of rank 1 to rank 0,
+    /// and so on; at the end, where rows go round, the last rows of the last rank to rank 0, and the first rows of
+    /// rank 0 to the last rank.
     pub fn edge(&self, e: u32) -> Edge
         requires { e < length (edges self.now) }
         ensures value { slice_get (edges self.now) e ≡ Some result }

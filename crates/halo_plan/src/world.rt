@@ -29,7 +29,8 @@ impl HaloPlan {
     }
 
     /// A world of the plan's ranks in which each edge is a pair: its send and its receive are initialised in
-    /// communicator 0 (MPI 4.0, 4.2.1), edge after edge, so that pair `e` of the world is edge `e`. The error is want of memory.
+    /// communicator 0 (MPI 4.0, 4.2.1), edge after edge, so that pair `e` of the world is edge `e`. The error is want
+    /// of memory.
     pub fn world(&self, alloc: Global) -> Result<World, AllocError>
         ensures world { IfOk result (λ world. IsWorldOf self.now world) }
     {

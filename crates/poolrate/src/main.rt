@@ -1,9 +1,9 @@
 //! `poolrate`: how many turns a second a pool gives. Its words are a kind of job, how many jobs, how many turns each
 //! has, and how many workers. It prints the turns, and on standard error the nanoseconds that they took.
 //!
-//! Kinds: `empty` (a turn does nothing), `work` (a turn takes some microseconds), `long` (the same, but all jobs but the
-//! first have a hundredth of the turns), `halo` (a job moves once its neighbours in the list have made as many steps,
-//! and a turn that has to wait yields), `spin` (the same, without a yield).
+//! Kinds: `empty` (a turn does nothing), `work` (a turn takes some microseconds), `long` (the same, but all jobs but
+//! the first have a hundredth of the turns), `halo` (a job moves once its neighbours in the list have made as many
+//! steps, and a turn that has to wait yields), `spin` (the same, without a yield).
 #![tactic(auto)]
 
 ghost use Rattle.std.specs.Prelude.{◌≡◌};
