@@ -1,13 +1,11 @@
 -- What is kept of a receive end's partitions is out of it after each call. A look changes neither the end's round nor its
 -- lanes, and a take and a return change the lane of their own partition alone.
-use Rattle.std.proofs.Common.{◌≡◌, ◌≢◌, ℕ, zero, suc, ◌+◌, ◌%◌, ◌<◌, ◌≤◌, Bool, true, false, List, [], ◌∷◌, ◌++◌, length, get_or, set, Option, Some, None, refl, sym, ap, ◌∙◌, subst, arith, inl, inr}
-use mathlib.Core.Option.{some, some-injective, some-ne-none}
+use Rattle.std.proofs.Common.{◌≡◌, ◌≢◌, ℕ, zero, suc, ◌<◌, Bool, true, false, List, [], ◌∷◌, ◌++◌, length, get_or, set, Option, Some, None, refl, sym, ap, ◌∙◌, subst, arith, inl, inr}
 use lib.ListN.{get_elem?}
 use Rattle.std.specs.List.{All}
 use Rattle.std.proofs.lemmas.Bool.{cases_eq}
 use Rattle.std.proofs.lemmas.Option.{none-some, same_Some}
 use Rattle.std.proofs.lemmas.List.{get_or-set_same, get_or-set_other}
-use Rattle.part_geometry.specs.Shape.{Shape}
 use Rattle.pair_core.specs.Names.{Piece}
 use Rattle.pair_core.specs.declared.view.RecvSide.{RecvSide}
 use Rattle.slot_rows.specs.declared.lane.Lane.{Lane}
@@ -19,7 +17,7 @@ use Rattle.part_geometry.specs.declared.answers.RecvTest.TheVariants.{Idle, Unta
 use Rattle.part_recv.specs.Hearing.{Hears}
 use Rattle.part_recv.specs.Receiving.{End, is_active, after_answer, after_start}
 use Rattle.part_recv.specs.Seeing.{looked, place_in, first_piece}
-use Rattle.part_recv.specs.Taking.{Arrived, IsOut, IsEndLook, IsRefused, Looked, LookedAll, Takes, took, gave_back}
+use Rattle.part_recv.specs.Taking.{Arrived, IsOut, IsEndLook, IsRefused, Looked, LookedAll, Takes, gave_back}
 use Rattle.part_recv.specs.declared.answers.EndLook.{EndLook}
 use Rattle.part_recv.specs.declared.answers.EndLook.TheVariants as look
 use Rattle.part_recv.specs.declared.answers.TakeRefusal.{TakeRefusal}

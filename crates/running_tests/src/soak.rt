@@ -306,6 +306,68 @@ fn send_and_look<R: Threads>(
     )
 }
 
+/// Lets four markers mark in four threads.
+fn mark_by_four<R: Threads + Sync>(
+    rt: &R,
+    pair: &Pair<AnyBytes>,
+    one: Marker<AnyBytes>,
+    two: Marker<AnyBytes>,
+    three: Marker<AnyBytes>,
+    four: Marker<AnyBytes>,
+) -> ((Marks, Marks), (Marks, Marks))
+    requires one { IsOf one.table one.view pair.now }
+    requires two { IsOf two.table two.view pair.now }
+    requires three { IsOf three.table three.view pair.now }
+    requires four { IsOf four.table four.view pair.now }
+    ensures one { IsOf result.0.0.marker.table result.0.0.marker.view pair.now }
+    ensures two { IsOf result.0.1.marker.table result.0.1.marker.view pair.now }
+    ensures three { IsOf result.1.0.marker.table result.1.0.marker.view pair.now }
+    ensures four { IsOf result.1.1.marker.table result.1.1.marker.view pair.now }
+{
+    join(
+        rt,
+        || -> (Marks, Marks)
+            requires { IsSync R.row × IsOf one.table one.view pair.now × IsOf two.table two.view pair.now }
+            ensures { IsOf result.0.marker.table result.0.marker.view pair.entry.now
+                × IsOf result.1.marker.table result.1.marker.view pair.entry.now }
+        { mark_by_two(rt, pair, one, two, 0) },
+        || -> (Marks, Marks)
+            requires { IsSync R.row × IsOf three.table three.view pair.now × IsOf four.table four.view pair.now }
+            ensures { IsOf result.0.marker.table result.0.marker.view pair.entry.now
+                × IsOf result.1.marker.table result.1.marker.view pair.entry.now }
+        { mark_by_two(rt, pair, three, four, 2) },
+    )
+}
+
+/// Receives, sends and watches in three threads.
+fn run_ends<R: Threads + Sync>(
+    rt: &R,
+    pair: &Pair<AnyBytes>,
+    recv: RecvEnd<AnyBytes>,
+    send: SendEnd<AnyBytes>,
+    watcher: Watcher<AnyBytes>,
+) -> (Received, (Sent, Watched))
+    requires recv { IsOf recv.table recv.view pair.now }
+    requires send { IsOf send.table send.view pair.now }
+    requires watcher { IsOf watcher.table watcher.view pair.now }
+    ensures recv { IsOf result.0.end.table result.0.end.view pair.now }
+    ensures send { IsOf result.1.0.end.table result.1.0.end.view pair.now }
+    ensures watcher { IsOf result.1.1.watcher.table result.1.1.watcher.view pair.now }
+{
+    join(
+        rt,
+        || -> Received
+            requires { IsOf recv.table recv.view pair.now }
+            ensures { IsOf result.end.table result.end.view pair.entry.now }
+        { receive(pair, recv) },
+        || -> (Sent, Watched)
+            requires { IsSync R.row × IsOf send.table send.view pair.now × IsOf watcher.table watcher.view pair.now }
+            ensures { IsOf result.0.end.table result.0.end.view pair.entry.now
+                × IsOf result.1.watcher.table result.1.watcher.view pair.entry.now }
+        { send_and_look(rt, pair, send, watcher) },
+    )
+}
+
 #[test]
 fn each_marker_and_each_end_in_a_thread_of_its_own(rt: HostRuntime) {
     let rt = &rt;
@@ -317,16 +379,8 @@ fn each_marker_and_each_end_in_a_thread_of_its_own(rt: HostRuntime) {
     let watcher = recv.watcher(&pair);
     let ((received, (sent, watched)), ((a, b), (c, d))) = join(
         rt,
-        || join(
-            rt,
-            || receive(&pair, recv),
-            || send_and_look(rt, &pair, send, watcher),
-        ),
-        || join(
-            rt,
-            || mark_by_two(rt, &pair, one, two, 0),
-            || mark_by_two(rt, &pair, three, four, 2),
-        ),
+        || run_ends(rt, &pair, recv, send, watcher),
+        || mark_by_four(rt, &pair, one, two, three, four),
     );
     let Sent {
         end: mut send,

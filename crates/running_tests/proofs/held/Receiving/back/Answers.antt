@@ -1,6 +1,5 @@
 use Rattle.std.proofs.Common.{◌≡◌, ◌<◌, length, get_or, None, Some, sym, ap, ◌∙◌, subst, arith}
 use Rattle.std.proofs.lemmas.List.{get_or_default}
-use Rattle.part_recv.specs.Receiving.{End}
 use Rattle.part_recv.specs.Taking.{gave_back}
 use Rattle.running_tests.specs.Held.{AreHeld}
 use Rattle.running_tests.proofs.Holding.{held_gave, held_dropped}
