@@ -86,32 +86,33 @@ impl Running {
     }
 
     /// What a call answers.
-    pub(crate) fn answer<R: Abort + AllocGlobal>(&mut self, rt: &R, call: Call) -> String {
+    pub(crate) fn answer<R: Abort + AllocGlobal>(&mut self, rt: &R, call: &Call) -> String {
         let pair = &self.pair;
+        let marks = &mut self.marker;
         match call {
             Call::Start => text(rt, start(pair, &mut self.send)),
             Call::Test => text(rt, test(pair, &mut self.send)),
-            Call::Ready(k, p, bytes) => text(rt, ready(pair, &mut self.marker, k, p, bytes)),
-            Call::Counted(k, p, bytes) => text(
+            Call::Ready(k, p, bytes) => text(rt, ready(pair, marks, *k, *p, bytes)),
+            Call::Counted(k, p, bytes) => {
+                let blank = Blank::new(1);
+                text(
+                    rt,
+                    ready_counted::<Brand>(pair, marks, *k, *p, bytes, blank),
+                )
+            }
+            Call::Range(k, p, last, bytes) => text(
                 rt,
-                ready_counted::<Brand>(pair, &mut self.marker, k, p, bytes, Blank::new(1)),
+                ready_range(pair, marks, *k, *p, *last, bytes),
             ),
-            Call::Range(k, low, high, bytes) => text(
-                rt,
-                ready_range(pair, &mut self.marker, k, low, high, bytes),
-            ),
-            Call::List(k, parts, bytes) => text(
-                rt,
-                ready_list(rt, pair, &mut self.marker, k, parts, bytes),
-            ),
+            Call::List(k, parts, bytes) => text(rt, ready_list(rt, pair, marks, *k, parts, bytes)),
             Call::DropMarker => text(rt, self.marker = marker(rt, pair, &mut self.send)),
-            Call::Watch(k, q) => text(rt, watch(rt, pair, &mut self.watcher, k, q)),
+            Call::Watch(k, q) => text(rt, watch(rt, pair, &mut self.watcher, *k, *q)),
             Call::StartRecv => text(rt, self.recv.start(rt, pair)),
             Call::TestRecv => text(rt, self.recv.test(pair)),
-            Call::Look(q) => text(rt, self.recv.look(pair, q)),
-            Call::Take(q) => self.recv.take(rt, pair, q),
-            Call::Back(q) => text(rt, self.recv.back(pair, q)),
-            Call::DropTaken(q) => text(rt, self.recv.forget(q)),
+            Call::Look(q) => text(rt, self.recv.look(pair, *q)),
+            Call::Take(q) => self.recv.take(rt, pair, *q),
+            Call::Back(q) => text(rt, self.recv.back(pair, *q)),
+            Call::DropTaken(q) => text(rt, self.recv.forget(*q)),
             Call::Learn => text(rt, self.recv.learn(pair, self.marker.note(pair))),
         }
     }

@@ -4,6 +4,13 @@ use crate::calls::Call::*;
 use crate::calls::{Call, Running};
 use std::process::Abort;
 
+/// Makes calls one after another, and compares what they answer.
+fn compare<R: Abort + AllocGlobal>(rt: &R, run: &mut Running, rows: &[(Call, &str)]) {
+    for (call, wanted) in rows {
+        assert_eq!(rt; run.answer(rt, call).as_str(), *wanted);
+    }
+}
+
 /// The calls of a whole round over 3 send partitions of 4 bytes and 2 receive partitions of 6.
 fn whole_round() -> [(Call, &'static str); 24] {
     [
@@ -49,25 +56,22 @@ fn whole_round() -> [(Call, &'static str); 24] {
 #[test]
 fn a_round_goes_through(rt: HostRuntime) {
     let mut run = Running::of(&rt, [3, 4, 2, 6, 1, 1]);
-    for (call, wanted) in whole_round() {
-        assert_eq!(rt; run.answer(&rt, call).as_str(), wanted);
-    }
-    let late = run.answer(&rt, Ready(1, 0, &[0; 4]));
-    assert_eq!(rt; late.as_str(), "Err(NotActive { shown: 12884901895 })");
+    compare(&rt, &mut run, &whole_round());
+    compare(
+        &rt,
+        &mut run,
+        &[(
+            Ready(1, 0, &[0; 4]),
+            "Err(NotActive { shown: 12884901895 })",
+        )],
+    );
     assert_eq!(rt; run.close(&rt), (1, 1, 4));
-}
-
-/// Makes calls whose answers aren't looked at.
-fn make<R: Abort + AllocGlobal>(rt: &R, run: &mut Running) {
-    for (call, _) in whole_round() {
-        run.answer(rt, call);
-    }
 }
 
 #[test]
 fn a_second_round_goes_through(rt: HostRuntime) {
     let mut run = Running::of(&rt, [3, 4, 2, 6, 1, 1]);
-    make(&rt, &mut run);
+    compare(&rt, &mut run, &whole_round());
     let rows = [
         (Start, "Ok(2)"),
         (Start, "Err(AlreadyActive { round: 2 })"),
@@ -100,9 +104,7 @@ fn a_second_round_goes_through(rt: HostRuntime) {
         (Take(2), "BadPartition"),
         (Watch(2, 2), "BadPartition"),
     ];
-    for (call, wanted) in rows {
-        assert_eq!(rt; run.answer(&rt, call).as_str(), wanted);
-    }
+    compare(&rt, &mut run, &rows);
 }
 
 #[test]
@@ -131,9 +133,7 @@ fn a_sender_is_as_many_rounds_ahead_as_the_depth(rt: HostRuntime) {
         (Start, "Ok(3)"),
         (Watch(1, 0), "Past { shown: 25769803776 }"),
     ];
-    for (call, wanted) in rows {
-        assert_eq!(rt; run.answer(&rt, call).as_str(), wanted);
-    }
+    compare(&rt, &mut run, &rows);
 }
 
 #[test]
@@ -153,9 +153,7 @@ fn a_piece_waits_for_each_partition_that_it_touches(rt: HostRuntime) {
         ),
         (Watch(1, 0), "Arrived"),
     ];
-    for (call, wanted) in rows {
-        assert_eq!(rt; run.answer(&rt, call).as_str(), wanted);
-    }
+    compare(&rt, &mut run, &rows);
 }
 
 #[test]
@@ -181,9 +179,7 @@ fn partitions_of_two_claim_words(rt: HostRuntime) {
         ),
         (Test, "Unmarked { partition: 0, shown: 8590000128 }"),
     ];
-    for (call, wanted) in rows {
-        assert_eq!(rt; run.answer(&rt, call).as_str(), wanted);
-    }
+    compare(&rt, &mut run, &rows);
 }
 
 #[test]
@@ -199,6 +195,24 @@ fn ranges_and_lists_mark_in_order(rt: HostRuntime) {
             List(1, &[0, 1], b"cd"),
             "Err(ReadyStop { at: 1, cause: AlreadyMarked { shown: 8589934599 } })",
         ),
+        (
+            List(1, &[3], b"e"),
+            "Ok(Marks { round: 1, count: 1, sent: 1 })",
+        ),
+        (StartRecv, "Ok(1)"),
+        (Take(0), "(1, 0, [99])"),
+        (Take(1), "(1, 1, [97])"),
+        (Take(2), "(1, 2, [98])"),
+        (Take(3), "(1, 3, [101])"),
+    ];
+    compare(&rt, &mut run, &rows);
+}
+
+#[test]
+fn a_bad_range_or_list_marks_nothing(rt: HostRuntime) {
+    let mut run = Running::of(&rt, [4, 1, 4, 1, 1, 1]);
+    let rows = [
+        (Start, "Ok(1)"),
         (
             Range(1, 3, 4, b"ef"),
             "Err(ReadyStop { at: 0, cause: BadRange })",
@@ -223,19 +237,13 @@ fn ranges_and_lists_mark_in_order(rt: HostRuntime) {
             List(7, &[], b""),
             "Ok(Marks { round: 7, count: 0, sent: 0 })",
         ),
+        (Test, "Unmarked { partition: 0, shown: 8589934592 }"),
         (
-            Counted(1, 3, b"e"),
-            "Ok(Marked { round: 1, partition: 3, sent: 1 })",
+            Counted(1, 0, b"a"),
+            "Ok(Marked { round: 1, partition: 0, sent: 1 })",
         ),
-        (StartRecv, "Ok(1)"),
-        (Take(0), "(1, 0, [99])"),
-        (Take(1), "(1, 1, [97])"),
-        (Take(2), "(1, 2, [98])"),
-        (Take(3), "(1, 3, [101])"),
     ];
-    for (call, wanted) in rows {
-        assert_eq!(rt; run.answer(&rt, call).as_str(), wanted);
-    }
+    compare(&rt, &mut run, &rows);
 }
 
 #[test]
@@ -271,7 +279,5 @@ fn all_goes_on_beside_a_dropped_marker_and_a_dropped_arrival(rt: HostRuntime) {
         (TestRecv, "Out { q: 0 }"),
         (Watch(1, 0), "Arrived"),
     ];
-    for (call, wanted) in rows {
-        assert_eq!(rt; run.answer(&rt, call).as_str(), wanted);
-    }
+    compare(&rt, &mut run, &rows);
 }
