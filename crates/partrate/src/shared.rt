@@ -1,0 +1,69 @@
+//! What all threads of a run share, and how they wait.
+
+ghost use Rattle.std.specs.Prelude.{◌≡◌};
+
+use crate::fault::Fault;
+use crate::plan::Plan;
+use pair_rule::{AnyBytes, Pair};
+use std::hint::spin_loop;
+use std::sync::OnceLock;
+use std::thread::yield_now;
+use std::time::Instant;
+
+/// What all threads of a run share.
+#[derive(Drop)]
+pub struct Shared {
+    /// The pair.
+    pub pair: Pair<AnyBytes>,
+    /// What is measured.
+    pub plan: Plan,
+    /// From when on times are counted.
+    pub begun: Instant,
+    /// The first fault of any thread. Each thread that waits looks at it, so none waits for one that has given up.
+    pub fault: OnceLock<Fault>,
+}
+
+impl Shared {
+    /// What a thread's work came to. Its fault, if it is the first, is told to the others.
+    pub fn told<T>(&self, outcome: Result<T, Fault>) -> Result<T, Fault>
+        ensures { result ≡ outcome }
+    {
+        match outcome {
+            Ok(value) => Ok(value),
+            Err(fault) => {
+                let _ = self.fault.try_set(fault);
+                Err(fault)
+            }
+        }
+    }
+}
+
+/// How many looks of a waiting thread pass until it lets another one run. There may be fewer processors than threads.
+const TRIES: u32 = 32;
+
+/// How often a thread has looked in vain.
+#[derive(Drop)]
+pub struct Looks {
+    vain: u32,
+}
+
+impl Looks {
+    /// Before the first look.
+    pub fn new() -> Looks {
+        Looks { vain: 0 }
+    }
+
+    /// Waits a moment after a look in vain. Fails where another thread has failed.
+    pub fn pause(&mut self, shared: &Shared) -> Result<(), Fault> {
+        self.vain = self.vain.wrapping_add(1);
+        if self.vain % TRIES != 0 {
+            spin_loop();
+            return Ok(());
+        }
+        yield_now();
+        match shared.fault.get() {
+            Some(fault) => Err(*fault),
+            None => Ok(()),
+        }
+    }
+}
