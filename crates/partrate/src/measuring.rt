@@ -128,19 +128,23 @@ pub fn measure<R: Clock + Threads + Wait + Sync>(
     let (pair, send, recv) = Pair::<AnyBytes>::create(alloc, plan.geometry, ())?;
     let send = SendEnd::from_seat(&pair, send);
     let recv = RecvEnd::from_seat(&pair, recv);
-    let shared = Shared {
-        pair,
-        plan,
-        begun: Instant::now(rt).map_err(|_| Fault::NoClock)?,
-        fault: OnceLock::new(),
-    };
+    // On the heap, apart from what this thread writes while the others read it.
+    let shared = Box::new(
+        alloc,
+        Shared {
+            pair,
+            plan,
+            begun: Instant::now(rt).map_err(|_| Fault::NoClock)?,
+            fault: OnceLock::new(),
+        },
+    )?;
     let ended = run_over(rt, alloc, &shared, send, recv)?;
     let Shared {
         pair,
         plan,
         begun: _,
         fault: _,
-    } = shared;
+    } = Box::into_inner(shared);
     let closed = close(pair, ended.send, ended.recv)?;
     let (sent, closed) = (ended.sent, closed.pieces_out());
     if sent != closed {

@@ -70,8 +70,8 @@ impl Times {
         Ok(spans.get(middle).copied().unwrap_or(Duration::ZERO))
     }
 
-    /// The rounds a second in the quickest twentieth of the spans between two times. There is no answer where a span has
-    /// few rounds: it would tell how fast a receiver takes what has piled up.
+    /// The rounds a second in the quickest twentieth of the spans between two times. There is no answer where a span
+    /// has few rounds: it would tell how fast a receiver takes what has piled up.
     pub fn quick(&self, alloc: Global) -> Result<Option<f64>, AllocError> {
         if self.every < SPAN {
             return Ok(None);
