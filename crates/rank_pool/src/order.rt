@@ -74,7 +74,11 @@ pub(crate) fn in_order<J: Job>(
     ensures back { (k : ℕ) (j : J) → get_elem? result.items k ≡ some j
         → IsBack J.which J.belongs J.over shared.now (view collector.pass).entered k j }
 {
-    let Worker { mut pass, finished } = collector;
+    let Worker {
+        mut pass,
+        finished,
+        ..
+    } = collector;
     queue.learn_as::<Whole<J>>(&mut pass);
     let row = lay(&pass, shared, finished, slots);
     take(&pass, shared, row, out)

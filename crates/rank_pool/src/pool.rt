@@ -10,7 +10,7 @@ use crate::row::into_row;
 use crate::rule::{JobPass, JobQueue};
 use crate::threads::{deal, enter_all, gather, run_workers};
 use crate::ticket::Ticket;
-use crate::worker::{Worker, serve};
+use crate::worker::{FEWEST_TURNS, Worker, serve};
 use std::alloc::{AllocError, Global};
 use std::collections::LinkedList;
 use std::sync::Wait;
@@ -118,6 +118,7 @@ fn run_in<J: Job, G: Gate, R: Threads + Wait + Sync>(
     let mut collector = Worker {
         pass,
         finished: LinkedList::new(alloc),
+        turns: FEWEST_TURNS,
     };
     gather(&queue, &mut collector, crew, shared);
     settle(rt, &queue, &mut collector, count, shared, gate);

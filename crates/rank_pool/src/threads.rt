@@ -8,7 +8,7 @@ ghost use Rattle.rank_pool.specs.Jobs.{IsHome, Serves, Waits, Works};
 use crate::job::{Gate, Job};
 use crate::rule::{Deals, Enters, Gathers, JobPass, JobQueue, Room};
 use crate::ticket::{Parcel, Ticket};
-use crate::worker::{Worker, work};
+use crate::worker::{FEWEST_TURNS, Worker, work};
 use std::alloc::Global;
 use std::collections::LinkedList;
 use std::sync::Wait;
@@ -87,6 +87,7 @@ pub(crate) fn deal<J: Job>(
         workers.push_reserved(Worker {
             pass: theirs,
             finished: LinkedList::new(alloc),
+            turns: FEWEST_TURNS,
         });
     }
     workers
@@ -150,7 +151,11 @@ pub(crate) fn gather<J: Job>(
 {
     let _ = shared;
     for worker in workers {
-        let Worker { pass, mut finished } = worker;
+        let Worker {
+            pass,
+            mut finished,
+            ..
+        } = worker;
         queue.absorb::<Gathers>(&mut collector.pass, pass);
         queue.learn_as::<Room>(&mut collector.pass);
         match collector.finished.append(&mut finished) {

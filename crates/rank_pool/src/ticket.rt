@@ -6,9 +6,6 @@ use std::collections::LinkedList;
 use std::marker::Model;
 use std::snapshot::Snapshot;
 
-/// How many turns a job gets at most each time that it is taken from the queue.
-const TURNS: u32 = 4;
-
 /// A job with its place in the list, and the number of its next turn. Proofs also see the values that it belongs to.
 #[derive(Drop)]
 pub struct Ticket<J: Job> {
@@ -99,15 +96,20 @@ impl<J: Job> Parcel<J> {
         }
     }
 
-    /// Gives the job its next turns, behind the gate, until it is over or has had some.
-    pub(crate) fn take_turns<G: Gate>(&mut self, shared: &J::Shared, gate: &G) -> JobTurn
+    /// Gives the job its next turns, behind the gate, until it is over or has had as many as `count`, and at least one.
+    pub(crate) fn take_turns<G: Gate>(
+        &mut self,
+        count: u32,
+        shared: &J::Shared,
+        gate: &G,
+    ) -> JobTurn
         requires { J.belongs self.old.job shared.now }
         ensures same { (self.new.number ≡ self.old.number) × (self.new.home ≡ self.old.home) }
         ensures belongs { J.belongs self.new.job shared.now }
         ensures which { J.which self.new.job ≡ J.which self.old.job }
         ensures over { result ≡ (if J.over self.new.job then JobTurn.Over else JobTurn.More) }
     {
-        for _ in 1..TURNS {
+        for _ in 1..count {
             match self.take_turn(shared, gate) {
                 JobTurn::More => {}
                 JobTurn::Over => return JobTurn::Over,

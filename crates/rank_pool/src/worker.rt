@@ -1,4 +1,4 @@
-//! What a worker does: it takes a job, gives it a turn, and puts it back or keeps it as finished.
+//! What a worker does: it takes a job, gives it some turns, and puts it back or keeps it as finished.
 ghost use Rattle.std.specs.Prelude.{◌≡◌, true, [], ◌∷◌, if◌then◌else◌};
 ghost use Rattle.crossbeam_queue.specs.Passes.{view, IsPassOf};
 ghost use Rattle.rank_pool.specs.Jobs.{IsListed, Works};
@@ -6,16 +6,23 @@ ghost use Rattle.rank_pool.specs.Jobs.{IsListed, Works};
 use crate::job::{Gate, Job, JobTurn};
 use crate::rule::{JobPass, JobQueue, Notes, Puts, Room, Takes};
 use crate::ticket::{Parcel, Ticket};
+use crossbeam_utils::Backoff;
 use std::collections::LinkedList;
 use std::sync::Wait;
 use std::sync::atomic::{AtomicU64, Ordering};
-use std::thread;
 
-/// A worker's pass, and the jobs that it has finished.
+/// How many turns a worker gives a job at least before it tries to put it back.
+pub(crate) const FEWEST_TURNS: u32 = 2;
+
+/// How many turns a worker gives a job at most before it tries to put it back.
+const MOST_TURNS: u32 = 16;
+
+/// A worker's pass, the jobs that it has finished, and how many turns it gives a job before it tries to put it back.
 #[derive(Drop)]
 pub struct Worker<J: Job> {
     pub pass: JobPass<J>,
     pub finished: LinkedList<Ticket<J>>,
+    pub turns: u32,
 }
 
 /// Keeps a job that is over.
@@ -41,7 +48,9 @@ fn finish<J: Job>(
     ticket.chain(&mut worker.finished);
 }
 
-/// Gives a job turns until the queue takes it, or until it is over. Answers whether it is over.
+/// Gives a job turns until the queue takes it, or until it is over. Answers whether it is over. Where another worker is
+/// in the way of the push, the job gets its next turns, and twice as many: so a queue that many workers meet at is asked
+/// less often, and nobody waits for it. Each push that goes through takes one of them away again.
 fn carry<J: Job, G: Gate, R: Wait>(
     rt: &R,
     queue: &JobQueue<J>,
@@ -61,21 +70,55 @@ fn carry<J: Job, G: Gate, R: Wait>(
 {
     let mut ticket = first;
     for _ in rt.forever() {
-        match ticket.take_turns(shared, gate) {
+        match ticket.take_turns(worker.turns, shared, gate) {
             JobTurn::Over => {
                 finish(queue, worker, ticket, shared);
                 return true;
             }
-            JobTurn::More => match queue.push_as::<Puts, R>(rt, &mut worker.pass, ticket) {
-                Ok(()) => return false,
-                Err(back) => ticket = back,
+            JobTurn::More => match queue.try_push_as::<Puts>(&mut worker.pass, ticket) {
+                Ok(()) => {
+                    worker.turns = worker.turns.saturating_sub(1).max(FEWEST_TURNS);
+                    return false;
+                }
+                Err(back) => {
+                    worker.turns = worker.turns.saturating_mul(2).min(MOST_TURNS);
+                    ticket = back;
+                }
             },
         }
     }
     unreachable!()
 }
 
-/// Takes the job at the front of the queue and gives it a turn. Answers whether it has finished a job by that.
+/// Takes the job at the front of the queue. Where it is empty, or another worker is in the way, it looks again, first
+/// after some pauses and then after other threads had the processor.
+fn next_job<J: Job, R: Wait>(
+    rt: &R,
+    queue: &JobQueue<J>,
+    worker: &mut Worker<J>,
+    shared: &J::Shared,
+) -> Parcel<J>
+    requires queue { IsPassOf queue.now worker.old.pass }
+    requires works { Works J.which J.belongs J.over shared.now (view worker.old.pass) worker.old.finished [] }
+    ensures queue { IsPassOf queue.now worker.new.pass }
+    ensures works { Works J.which J.belongs J.over shared.now (view worker.new.pass) worker.new.finished
+        (result.number ∷ []) }
+    ensures listed { IsListed J.which J.belongs (view worker.new.pass).entered result }
+    ensures same { ((view worker.new.pass).parts ≡ (view worker.old.pass).parts)
+        × ((view worker.new.pass).entered ≡ (view worker.old.pass).entered) }
+{
+    let _ = shared;
+    let backoff = Backoff::new();
+    for _ in rt.forever() {
+        match queue.try_pop_as::<Takes>(&mut worker.pass) {
+            Some(ticket) => return ticket,
+            None => backoff.snooze(),
+        }
+    }
+    unreachable!()
+}
+
+/// Takes the job at the front of the queue and gives it turns. Answers whether it has finished a job by that.
 pub(crate) fn serve<J: Job, G: Gate, R: Wait>(
     rt: &R,
     queue: &JobQueue<J>,
@@ -90,13 +133,8 @@ pub(crate) fn serve<J: Job, G: Gate, R: Wait>(
     ensures same { ((view worker.new.pass).parts ≡ (view worker.old.pass).parts)
         × ((view worker.new.pass).entered ≡ (view worker.old.pass).entered) }
 {
-    match queue.pop_as::<Takes, R>(rt, &mut worker.pass) {
-        Some(ticket) => carry(rt, queue, worker, ticket, shared, gate),
-        None => {
-            thread::yield_now();
-            false
-        }
-    }
+    let ticket = next_job(rt, queue, worker, shared);
+    carry(rt, queue, worker, ticket, shared, gate)
 }
 
 /// Serves until a job ends and all the others have a worker. `claimed` counts the jobs that have one: each worker
