@@ -13,6 +13,7 @@ pub struct Ledger {
 }
 
 impl Ledger {
+    /// A ledger of so many jobs, which had no turn so far.
     pub fn new(alloc: Global, jobs: u32) -> Result<Ledger, AllocError> {
         let mut begun = Vec::new(alloc);
         for _ in 0..jobs {
@@ -62,6 +63,7 @@ pub struct Countdown {
 }
 
 impl Countdown {
+    /// A job of this place in the list, with so many turns to go.
     pub fn new(name: u32, left: u64) -> Countdown {
         Countdown { name, left, had: 0 }
     }

@@ -10,6 +10,7 @@ use Rattle.rank_pool.specs.Places.{weigh, below}
 use Rattle.rank_pool.specs.Jobs.{IsListed, IsHome, AllOver, Waits, Works, IsBack, IsIn}
 use Rattle.rank_pool.proofs.Moves.{weigh-one, below-one}
 
+-- two numbers are the same or not
 same_or : (a b : ℕ) → (a ≡ b) ⊎ (a ≢ b)
 same_or zero zero = inl refl
 same_or zero (suc b) = inr (λ e. omega arith)
@@ -23,42 +24,50 @@ one_at zero (suc y) = 0
 one_at (suc k) zero = 0
 one_at (suc k) (suc y) = one_at k y
 
+-- at k the weight is 1
 one_here : (k : ℕ) → one_at k k ≡ 1
 one_here zero = refl
 one_here (suc k) = one_here k
 
+-- where the weight is above 0, the number is k
 one_is : (k y : ℕ) → 0 < one_at k y → y ≡ k
 one_is zero zero h = refl
 one_is zero (suc y) h = absurd (omega arith)
 one_is (suc k) zero h = absurd (omega arith)
 one_is (suc k) (suc y) h = ap suc (one_is k y h)
 
+-- where k is below n, the numbers below n weigh something
 below_at : (k n : ℕ) → k < n → 0 < below (one_at k) n
 below_at k zero h = absurd (omega arith)
 below_at k (suc n) h = ⊎_elim (λ (e : k ≡ n). let o : one_at k n ≡ 1 = ap (one_at k) (sym e) ∙ one_here k in omega arith)
     (λ (e : k ≢ n). let b = below_at k n (omega arith) in omega arith) (same_or k n)
 
+-- a list without numbers weighs nothing
 weigh_none : (h : ℕ → ℕ) (xs : List ℕ) → weigh (λ _. 1) xs ≡ 0 → weigh h xs ≡ 0
 weigh_none h [] e = refl
 weigh_none h (x ∷ xs) e = absurd (omega arith)
 
 module _ {A : Type 0} where
+  -- a place where something stands is within the list
   pub some_within : (l : List A) (i : ℕ) (a : A) → get_elem? l i ≡ some a → i < length l
   some_within [] i a e = absurd (some-ne-none a (sym e))
   some_within (x ∷ xs) zero a e = omega arith
   some_within (x ∷ xs) (suc i) a e = let t = some_within xs i a e in omega arith
 
+  -- at each place within the list something stands
   pub elem_at : (l : List A) (i : ℕ) (d : A) → i < length l → get_elem? l i ≡ some (slice_index_or l i d)
   elem_at [] i d h = absurd (omega arith)
   elem_at (x ∷ xs) zero d h = refl
   elem_at (x ∷ xs) (suc i) d h = elem_at xs i d (omega arith)
 
+  -- what stands in a list that grew by one stood there, or is the new one at its end
   pub snoc_at : (l : List A) (a b : A) (j : ℕ) → get_elem? (l ++ a ∷ []) j ≡ some b → (get_elem? l j ≡ some b) ⊎ ((j ≡ length l) × (a ≡ b))
   snoc_at [] a b zero e = inr (refl, some-injective a b e)
   snoc_at [] a b (suc j) e = absurd (some-ne-none b (sym e))
   snoc_at (x ∷ xs) a b zero e = inl e
   snoc_at (x ∷ xs) a b (suc j) e = ⊎_elim (λ t. inl t) (λ (t : (j ≡ length xs) × (a ≡ b)). inr (ap suc t.0, t.1)) (snoc_at xs a b j e)
 
+  -- what stands right behind a front has the front's length as its place
   pub here_at : (xs ys zs : List A) (a : A) → xs ++ (a ∷ ys) ≡ zs → get_elem? zs (length xs) ≡ some a
   here_at xs ys zs a e = ap (λ l. get_elem? l (length xs)) (sym e) ∙ here xs where
     here : (xs : List A) → get_elem? (xs ++ (a ∷ ys)) (length xs) ≡ some a
@@ -66,6 +75,7 @@ module _ {A : Type 0} where
     here (x ∷ xs) = here xs
 
 module _ {J S : Type 0} (which : J → ℕ) (belongs : J → S → Type 0) (over : J → Bool) where
+  -- where k is among the numbers of tickets, one of them has it
   found : (k : ℕ) (xs : List (Ticket J S)) → 0 < weigh (one_at k) (map (λ x. x.number) xs) → (i : ℕ) × (x : Ticket J S) × (get_elem? xs i ≡ some x) × (x.number ≡ k)
   found k [] h = absurd (omega arith)
   found k (x ∷ xs) h = ⊎_elim
@@ -75,7 +85,7 @@ module _ {J S : Type 0} (which : J → ℕ) (belongs : J → S → Type 0) (over
       let r = found k xs (omega arith) in (suc r.0, r.1, r.2, r.3))
       (same_or x.number k)
 
-  -- where as many are finished as were is_entered, each number is among them
+  -- where as many are finished as were entered, each number is among them
   pub all_there : (items xs : List (Ticket J S)) (v : Known (ℕ × S)) → ((h : ℕ → ℕ) → weigh h (map (λ x. x.number) items) + weigh h v.held + weigh h v.done ≡ below h (length v.entered))
       → v.held ≡ [] → v.done ≡ map (λ x. x.number) xs → length xs ≡ length v.entered → (k : ℕ) → k < length v.entered → (i : ℕ) × (x : Ticket J S) × (get_elem? xs i ≡ some x) × (x.number ≡ k)
   all_there items xs v whole none done all k lt =
@@ -133,9 +143,11 @@ module _ {J S : Type 0} (which : J → ℕ) (belongs : J → S → Type 0) (over
       let rest : map which os ≡ map f xs = in_turn shared f xs os (omega arith) (λ k y e. let r = b (suc k) y e in record { is_entered = r.is_entered; ended = r.ended; home = r.home }) in
       λ i. head i ∷ rest i
 
+  -- jobs that are back are over
   pub all_over : (shared : S) (entered : List (ℕ × S)) (out : List J) → ((k : ℕ) (j : J) → get_elem? out k ≡ some j → IsBack which belongs over shared entered k j) → All (λ j. over j ≡ true) out
   all_over shared entered out b k d lt = (b k (slice_index_or out k d) (elem_at out k d lt)).ended
 
+  -- jobs that are back belong to the shared values
   pub all_home : (shared : S) (entered : List (ℕ × S)) (out : List J) → ((k : ℕ) (j : J) → get_elem? out k ≡ some j → IsBack which belongs over shared entered k j) → All (λ j. belongs j shared) out
   all_home shared entered out b k d lt = (b k (slice_index_or out k d) (elem_at out k d lt)).home
 

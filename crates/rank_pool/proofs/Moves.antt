@@ -8,28 +8,34 @@ use Rattle.crossbeam_queue.proofs.Lists.{at_set, at_snoc, at_longer, at_last}
 use Rattle.rank_pool.specs.declared.rule.Known.{Known}
 use Rattle.rank_pool.specs.Places.{weigh, below, knows, total, with_it, Reads, Each, InOnePlace}
 
+-- two lists in a row weigh what both do
 pub weigh-append : (h : ℕ → ℕ) (xs ys : List ℕ) → weigh h (xs ++ ys) ≡ weigh h xs + weigh h ys
 weigh-append h [] ys = omega arith
 weigh-append h (x ∷ xs) ys = omega (arith, weigh-append h xs ys)
 
+-- where each number weighs 1, a list weighs its length
 pub weigh-one : (xs : List ℕ) → weigh (λ _. 1) xs ≡ length xs
 weigh-one [] = refl
 weigh-one (x ∷ xs) = omega (arith, weigh-one xs)
 
+-- where each number weighs 1, the numbers below n weigh n
 pub below-one : (n : ℕ) → below (λ _. 1) n ≡ n
 below-one zero = refl
 below-one (suc n) = omega (arith, below-one n)
 
 module _ {O : Type 0} where
+  -- one view is put in the place of another: the sum changes by their difference
   total_set : (f : Known O → ℕ) (views : List (Known O)) (p : ℕ) (v w : Known O) → get_elem? views p ≡ some v → total f (set views p w) + f v ≡ total f views + f w
   total_set f [] p v w e = absurd (some-ne-none v (sym e))
   total_set f (x ∷ xs) zero v w e = let s : f x ≡ f v = ap f (some-injective x v e) in omega arith
   total_set f (x ∷ xs) (suc p) v w e = omega (arith, total_set f xs p v w e)
 
+  -- one more view adds its own to the sum
   total-append : (f : Known O → ℕ) (views : List (Known O)) (v : Known O) → total f (views ++ v ∷ []) ≡ total f views + f v
   total-append f [] v = omega arith
   total-append f (x ∷ xs) v = omega (arith, total-append f xs v)
 
+  -- the sum is at least what one view adds
   total_at : (f : Known O → ℕ) (views : List (Known O)) (p : ℕ) (v : Known O) → get_elem? views p ≡ some v → f v ≤ total f views
   total_at f [] p v e = absurd (some-ne-none v (sym e))
   total_at f (x ∷ xs) zero v e = let s : f x ≡ f v = ap f (some-injective x v e) in omega arith
@@ -40,6 +46,7 @@ module _ {O : Type 0} where
   total_none f g [] z n = refl
   total_none f g (x ∷ xs) z n = omega (arith, total_none f g xs (omega arith) (λ p v e. n (suc p) v e), n 0 x refl (omega arith))
 
+  -- where one view has all of g, and f is nothing without g, it has all of f
   total_only : (f g : Known O → ℕ) (views : List (Known O)) (p : ℕ) (v : Known O) → get_elem? views p ≡ some v → total g views ≡ g v → Each (λ u. g u ≡ 0 → f u ≡ 0) views → total f views ≡ f v
   total_only f g [] p v e t n = absurd (some-ne-none v (sym e))
   total_only f g (x ∷ xs) zero v e t n =
@@ -59,27 +66,33 @@ module _ {O : Type 0} where
   others g (x ∷ xs) (suc p) zero v u e t n a = let s : g x ≡ g u = ap g (some-injective x u a) in omega (arith, total_at g xs p v e)
   others g (x ∷ xs) (suc p) (suc j) v u e t n a = let at = total_at g xs p v e in others g xs p j v u e (omega arith) (λ s. n (ap suc s)) a
 
+  -- what the new view has, and all the others have, each view has once it is put in
   each_set : (P : Known O → Type 0) (views : List (Known O)) (p : ℕ) (w : Known O) → P w → ((j : ℕ) (u : Known O) → j ≢ p → get_elem? views j ≡ some u → P u) → Each P (set views p w)
   each_set P views p w mine old j u e = ⊎_elim (λ (x : (j ≡ p) × (w ≡ u)). subst P x.1 mine) (λ (x : (j ≢ p) × (get_elem? views j ≡ some u)). old j u x.0 x.1) (at_set views p j w u e)
 
+  -- what each view and one more have, each of all has
   each-append : (P : Known O → Type 0) (views : List (Known O)) (w : Known O) → P w → Each P views → Each P (views ++ w ∷ [])
   each-append P views w mine old j u e = ⊎_elim (λ x. old j u x) (λ (x : w ≡ u). subst P x mine) (at_snoc views w u j e)
 
+  -- a pass with nothing fits whatever was entered
   spent_reads : (entered : List O) → Reads entered (knows 0 [] [] [])
   spent_reads entered = ((λ h. absurd (omega arith)), λ _. (refl, refl))
 
+  -- the first pass fits an empty list of entered jobs
   first_reads : (all p : ℕ) (v : Known O) → get_elem? (knows all [] [] [] ∷ []) p ≡ some v → Reads [] v
   first_reads all zero v e = subst (Reads []) (some-injective (knows all [] [] []) v e) ((λ _. refl), λ _. (refl, refl))
   first_reads all (suc p) v e = absurd (some-ne-none v (sym e))
 
 module _ {T O : Type 0} (all : ℕ) (number : T → ℕ) (origin : T → O) (belongs : T → Type 0) where
+  -- the rule holds of an empty queue with the first pass
   pub begins : InOnePlace all number origin belongs [] (knows all [] [] [] ∷ [])
   begins = ([], omega arith, (λ h. refl), (λ k x e. absurd (some-ne-none x (sym e))), first_reads all)
 
+  -- one more value in the queue adds the weight of its number
   numbers_more : (h : ℕ → ℕ) (items : List T) (x : T) → weigh h (map number (items ++ x ∷ [])) ≡ weigh h (map number items) + h (number x)
   numbers_more h items x = ap (weigh h) (map-append number items (x ∷ [])) ∙ omega (arith, weigh-append h (map number items) (number x ∷ []))
 
-  -- the next number is is_entered
+  -- a job is entered under the next number
   pub enters : (n p : ℕ) (v : Known O) (x : T) → 0 < all → v.parts ≡ all → number x ≡ length v.entered → belongs x
       → Pushes (InOnePlace all number origin belongs) n p v x (λ w. w ≡ knows v.parts (v.entered ++ origin x ∷ []) v.held v.done)
   enters n p v x pos every next is items views room r at =
@@ -132,6 +145,7 @@ module _ {T O : Type 0} (all : ℕ) (number : T → ℕ) (origin : T → O) (bel
         refl,
       )
 
+  -- the job at the front goes to the worker that takes it, as it was entered
   pub takes : (p : ℕ) (v : Known O) → 0 < v.parts
       → Pops (InOnePlace all number origin belongs) p v (λ x w. (w ≡ knows v.parts v.entered (number x ∷ v.held) v.done) × (get_elem? v.entered (number x) ≡ some (origin x)) × belongs x)
   takes p v part x items views r at =
@@ -182,6 +196,7 @@ module _ {T O : Type 0} (all : ℕ) (number : T → ℕ) (origin : T → O) (bel
             (each_set (Reads r.0) views p w ((λ _. same), λ z. absurd (omega arith)) (λ j u ne e. r.4 j u e)),
       )
 
+  -- the pass of another worker comes back, and has nothing any more
   pub gathers : (p : ℕ) (v : Known O) (q : ℕ) (u : Known O) → 0 < v.parts
       → Merges (InOnePlace all number origin belongs) p v q u (knows (v.parts + u.parts) v.entered (v.held ++ u.held) (v.done ++ u.done)) (knows 0 [] [] [])
   gathers p v q u part items views r at apart at' =
@@ -202,6 +217,7 @@ module _ {T O : Type 0} (all : ℕ) (number : T → ℕ) (origin : T → O) (bel
             (λ j y ne e. each_set (Reads r.0) views p both ((λ _. same), λ z. absurd (omega arith)) (λ i a _ e'. r.4 i a e') j y e),
       )
 
+  -- what a worker holds and has finished is no more than was entered
   pub room : (p : ℕ) (v : Known O) → 0 < v.parts → Learns (InOnePlace all number origin belongs) p v (λ items. length v.held + length v.done ≤ length v.entered)
   room p v part items views r at =
       let same : length v.entered ≡ length r.0 = ap length ((r.4 p v at).0 part) in

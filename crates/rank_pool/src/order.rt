@@ -26,7 +26,9 @@ fn lay<J: Job>(
     ensures laid { (i : ℕ) (x : _) → get_elem? finished i ≡ some x
         → IsIn J.which J.belongs J.over shared.now (view pass.now).entered result.items x.number }
 {
+    // The contract alone speaks of the pass.
     let _ = pass;
+    // The contract alone speaks of the shared values.
     let _ = shared;
     let mut row = slots;
     for ticket in finished {
@@ -44,7 +46,9 @@ fn take<J: Job>(pass: &JobPass<J>, shared: &J::Shared, slots: Vec<Option<J>>, ou
     ensures back { (k : ℕ) (j : J) → get_elem? result.items k ≡ some j
         → IsBack J.which J.belongs J.over shared.now (view pass.now).entered k j }
 {
+    // The contract alone speaks of the pass.
     let _ = pass;
+    // The contract alone speaks of the shared values.
     let _ = shared;
     let mut jobs = out;
     for slot in slots {
@@ -79,6 +83,7 @@ pub(crate) fn in_order<J: Job>(
         finished,
         ..
     } = collector;
+    // Each job is among the finished ones, for the proof.
     queue.learn_as::<Whole<J>>(&mut pass);
     let row = lay(&pass, shared, finished, slots);
     take(&pass, shared, row, out)

@@ -126,9 +126,11 @@ fn run_in<J: Job, G: Gate, R: Threads + Wait + Sync>(
 }
 
 /// Gives all jobs turns, in as many workers, until each is over, and answers the jobs in the order given. A worker
-/// takes the job at the front of a queue, gives it one turn behind the gate, and puts it at the back, so no job is
-/// bound to a worker. There are no more workers than jobs that aren't over: where one has finished a job and each of
-/// the others has a worker, it ends. A worker whose thread can't be started is run by the caller.
+/// takes the job at the front of a queue, gives it some turns behind the gate, and puts it at the back, so no job is
+/// bound to a worker. It tries to put it back after 2 turns, or after up to 16 where workers often meet at the queue;
+/// where another one is in the way, the job gets further turns. There are no more workers than jobs that aren't over:
+/// where one has finished a job and each of the others has a worker, it ends. A worker whose thread can't be started
+/// is run by the caller.
 ///
 /// All memory is taken before the first turn; it grows with the jobs, and not with the workers times the jobs. Where
 /// there is none, `PoolRefused` hands all jobs back without a turn. The call returns once all jobs are over, and may

@@ -7,8 +7,8 @@ use crossbeam_queue::{Pass, RuledArrayQueue};
 use std::collections::LinkedList;
 use std::marker::PhantomData;
 
-// What a pass knows: its parts of the right to know the whole, the jobs that were entered, by number, and the numbers
-// that it holds and has finished. No value of it is made.
+/// What a pass knows: its parts of the right to know the whole, the jobs that were entered, by number, and the numbers
+/// that it holds and has finished. No value of it is made.
 pub struct Known<O> {
     pub parts: u64,
     pub entered: LinkedList<O>,
@@ -16,7 +16,7 @@ pub struct Known<O> {
     pub done: LinkedList<u32>,
 }
 
-// What is remembered of a job that was entered: which it is, and to which shared values it belongs.
+/// What is remembered of a job that was entered: which it is, and to which shared values it belongs.
 pub type Origin<J> = (u64, <J as Job>::Shared);
 
 /// The rule itself.
@@ -103,19 +103,6 @@ impl<O> Join<Known<O>> for Gathers {
     ghost both = { λ v w. knows (v.parts + w.parts) v.entered (v.held ++ w.held) (v.done ++ w.done) };
 
     ghost spent = { knows 0 [] [] [] };
-}
-
-/// A push and a pop learn nothing.
-impl<T, V> Lesson<T, V> for Puts {
-    ghost use Rattle.std.specs.Prelude.{⊤};
-
-    ghost fact = { λ v items. ⊤ };
-}
-
-impl<T, V> Lesson<T, V> for Takes {
-    ghost use Rattle.std.specs.Prelude.{⊤};
-
-    ghost fact = { λ v items. ⊤ };
 }
 
 /// What a worker holds and has finished is no more than was entered.

@@ -51,6 +51,7 @@ pub(crate) fn enter_all<J: Job, R: Wait>(
     ensures queue { IsPassOf queue.now pass.new }
     ensures view { view pass.new ≡ knows every (map (λ x. (J.which x.job, shared.now)) tickets) [] [] }
 {
+    // The contract alone speaks of the shared values.
     let _ = shared;
     let mut row = tickets;
     for _ in 0..row.len() {
@@ -80,6 +81,7 @@ pub(crate) fn deal<J: Job>(
     ensures workers { All (λ w. IsPassOf queue.now w.pass
         × Serves J.which J.belongs J.over shared.now (view pass.old).entered (view w.pass) w.finished) result.items }
 {
+    // The contract alone speaks of the shared values.
     let _ = shared;
     let mut workers = seats;
     for _ in 0..count {
@@ -149,6 +151,7 @@ pub(crate) fn gather<J: Job>(
     ensures parts { (view collector.new.pass).parts ≡ (view collector.old.pass).parts + vec_len workers }
     ensures entered { (view collector.new.pass).entered ≡ (view collector.old.pass).entered }
 {
+    // The contract alone speaks of the shared values.
     let _ = shared;
     for worker in workers {
         let Worker {
@@ -157,6 +160,7 @@ pub(crate) fn gather<J: Job>(
             ..
         } = worker;
         queue.absorb::<Gathers>(&mut collector.pass, pass);
+        // The finished ones have room in one list, for the proof.
         queue.learn_as::<Room>(&mut collector.pass);
         match collector.finished.append(&mut finished) {
             Ok(()) => {}

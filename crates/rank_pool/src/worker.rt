@@ -42,15 +42,18 @@ fn finish<J: Job>(
     ensures same { ((view worker.new.pass).parts ≡ (view worker.old.pass).parts)
         × ((view worker.new.pass).entered ≡ (view worker.old.pass).entered) }
 {
+    // The contract alone speaks of the shared values.
     let _ = shared;
+    // The finished ones have room in one list, for the proof.
     queue.learn_as::<Room>(&mut worker.pass);
+    // The pass notes that the job is finished, for the proof. The new one knows nothing, and goes.
     let _ = queue.another::<Notes>(&mut worker.pass);
     ticket.chain(&mut worker.finished);
 }
 
-/// Gives a job turns until the queue takes it, or until it is over. Answers whether it is over. Where another worker is
-/// in the way of the push, the job gets its next turns, and twice as many: so a queue that many workers meet at is asked
-/// less often, and nobody waits for it. Each push that goes through takes one of them away again.
+/// Gives a job turns until the queue takes it, or until it is over. Answers whether it is over. Where another worker
+/// is in the way of the push, the job gets its next turns, and twice as many: so a queue at which many workers meet is
+/// asked less often, and nobody waits for it. Each push that goes through takes one of them away again.
 fn carry<J: Job, G: Gate, R: Wait>(
     rt: &R,
     queue: &JobQueue<J>,
@@ -107,6 +110,7 @@ fn next_job<J: Job, R: Wait>(
     ensures same { ((view worker.new.pass).parts ≡ (view worker.old.pass).parts)
         × ((view worker.new.pass).entered ≡ (view worker.old.pass).entered) }
 {
+    // The contract alone speaks of the shared values.
     let _ = shared;
     let backoff = Backoff::new();
     for _ in rt.forever() {
