@@ -51,6 +51,13 @@ impl CellBuf {
         self.bytes[i]
     }
 
+    /// All of its bytes, in order.
+    pub fn as_slice(&self) -> &[u8]
+        ensures { result.now ≡ self.now.bytes }
+    {
+        self.bytes.as_slice()
+    }
+
     /// Puts as many bytes into it as it has, for a round. It takes no memory.
     pub fn fill(&mut self, round: u32, bytes: &[u8])
         requires { length bytes.now ≡ length self.old.bytes }

@@ -1,9 +1,13 @@
--- The bytes of buffers, one after another, read and copied buffer by buffer.
-use Rattle.std.proofs.Common.{◌≡◌, ℕ, suc, ◌+◌, ◌-◌, ◌<◌, ◌≤◌, List, [], ◌∷◌, ◌++◌, length, get_or, take, drop, refl, sym, ap, ◌∙◌, arith, append_assoc, append-nil, length-append, take-append-drop, take_at, length-take-le}
+-- The bytes of buffers, one after another, read and copied buffer by buffer, all of them or a part.
+use Rattle.std.proofs.Common.{◌≡◌, ℕ, suc, ◌+◌, ◌-◌, ◌<◌, ◌≤◌, List, [], ◌∷◌, ◌++◌, length, get_or, take, drop, refl, sym, ap, ◌∙◌, arith, append_assoc, append-nil, inl, inr, length-append, take-append-drop, take_at, length-take-le}
 use borrow.Rule.Slice.PartMut.{put_mid, post_of}
 use mathlib.Core.Option.{some}
 use lib.ListN.{get_elem?}
-use Rattle.std.proofs.lemmas.List.{get_or_append_left, get_or-append_right}
+use Rattle.std.specs.Prelude.{◌⊎◌, min}
+use Rattle.std.proofs.lemmas.Bool.{cases_lt}
+use Rattle.std.proofs.lemmas.List.{get_or_append_left, get_or-append_right, drop-drop, drop_at, drop-append-le, take-append-le, take_all, length-drop}
+use Rattle.std.proofs.lemmas.Slice.{take-put_mid}
+use Rattle.std.proofs.Math.Seq.{take-add}
 use Rattle.slot_rows.proofs.Lists.{at_split}
 use Rattle.slot_rows.proofs.Overlays.{take_next}
 use Rattle.pair_rule.specs.Buf.{Buf}
@@ -47,6 +51,12 @@ bytes_upto bufs n b e =
     ap (λ (z : ℕ). bytes_in (take z bufs)) (let o : n + 1 ≡ suc n = omega arith in o)
     ∙ (ap bytes_in (take_next bufs n b e) ∙ (bytes_in-append (take n bufs) (b ∷ []) ∙ ap (λ (z : List ℕ). bytes_in (take n bufs) ++ z) (append-nil b.bytes)))
 
+-- what is behind the first n buffers' bytes
+pub bytes_behind : (bufs : List Buf) (n : ℕ) (b : Buf) → get_elem? bufs n ≡ some b → drop (length (bytes_in (take n bufs))) (bytes_in bufs) ≡ b.bytes ++ bytes_in (drop (n + 1) bufs)
+bytes_behind bufs n b e =
+    ap (drop (length (bytes_in (take n bufs)))) (ap bytes_in (sym (take-append-drop n bufs)) ∙ bytes_in-append (take n bufs) (drop n bufs))
+    ∙ (drop_at (bytes_in (take n bufs)) (bytes_in (drop n bufs)) (length (bytes_in (take n bufs))) refl ∙ bytes_from bufs n b e)
+
 -- they are no more than all
 pub bytes_few : (bufs : List Buf) (n : ℕ) → length (bytes_in (take n bufs)) ≤ length (bytes_in bufs)
 bytes_few bufs n =
@@ -60,3 +70,53 @@ copied_more out new at n fits size =
     let post : List ℕ = post_of at (at + n - at) out in
     let long : length (take at out ++ new) ≡ at + n = let a = length-take-le at out fits in let b = length-append (take at out) new in omega arith in
     ap (take (at + n)) (sym (append_assoc (take at out) new post)) ∙ take_at (take at out ++ new) post (at + n) long
+
+-- ---- a part
+
+-- Of all bytes, n from `start` on are wanted. Those among the first p bytes are copied to the front: `at` of them. As
+-- many as `skip` lie before the first that is wanted, and aren't among the first p.
+pub record IsCopied (all out : List ℕ) (n start p skip at : ℕ) : Type 0 where
+  pub before : skip ≡ start - p
+  pub done : at ≡ min n (p - start)
+  pub same : take at out ≡ take at (drop start all)
+
+-- at first nothing is copied
+pub copied_first : (all out : List ℕ) (n start : ℕ) → IsCopied all out n start 0 start 0
+copied_first all out n start = record { before = omega arith; done = omega arith; same = refl }
+
+-- what is wanted of the next buffer is copied behind what stands
+pub copied_next : (all b rest out new : List ℕ) (n start p skip at first count k : ℕ) → IsCopied all out n start p skip at → n ≡ length out → drop p all ≡ b ++ rest
+    → first ≡ min skip (length b) → count ≡ min (length b - first) (length out - at) → new ≡ take (first + count - first) (drop first b)
+    → IsCopied all (put_mid at k out new) n start (p + length b) (skip - first) (at + count)
+copied_next all b rest out new n start p skip at first count k h size here low few is =
+    let before = h.before in let done = h.done in
+    let behind = length-drop first b in
+    let cut : first + count - first ≡ count = omega arith in
+    let long : length new ≡ count = ap length is ∙ (length-take-le (first + count - first) (drop first b) (omega arith) ∙ cut) in
+    record {
+      before = omega arith;
+      done = omega arith;
+      same = take-put_mid at k out new (at + count) (omega arith) (omega arith)
+          ∙ ((λ i. h.same i ++ part (cases_lt 0 count) cut i) ∙ sym (take-add at count (drop start all)));
+    }
+  where
+    part : ((0 < count) ⊎ (count ≤ 0)) → first + count - first ≡ count → new ≡ take count (drop at (drop start all))
+    part (inl more) cut =
+        let before = h.before in let done = h.done in
+        let behind = length-drop first b in
+        let place : start + at ≡ p + first = omega arith in
+        is ∙ (ap (λ m. take m (drop first b)) cut
+        ∙ (sym (take-append-le count (drop first b) rest (omega arith))
+        ∙ (sym (ap (take count) (drop-append-le first b rest (omega arith)))
+        ∙ (sym (ap (λ xs. take count (drop first xs)) here)
+        ∙ (ap (take count) (drop-drop first p all) ∙ (sym (ap (λ m. take count (drop m all)) place) ∙ sym (ap (take count) (drop-drop at start all))))))))
+    part (inr none) cut =
+        let zero : count ≡ 0 = omega arith in
+        is ∙ (ap (λ m. take m (drop first b)) (cut ∙ zero) ∙ sym (ap (λ m. take m (drop at (drop start all))) zero))
+
+-- where as many are copied as are wanted, all that are wanted are there
+pub copied_all : (all out : List ℕ) (n start p skip at : ℕ) → IsCopied all out n start p skip at → n ≡ length out → n ≤ p - start → out ≡ take (start + n - start) (drop start all)
+copied_all all out n start p skip at h size enough =
+    let done : at ≡ n = h.done ∙ omega arith in
+    let cut : at ≡ start + n - start = omega arith in
+    sym (take_all at out (omega arith)) ∙ (h.same ∙ ap (λ m. take m (drop start all)) cut)

@@ -1,6 +1,6 @@
 //! What a take hands over.
 
-ghost use Rattle.std.specs.Prelude.{◌≡◌, ◌<◌, length, slice_index};
+ghost use Rattle.std.specs.Prelude.{◌≡◌, ◌<◌, ◌≤◌, ◌+◌, length, slice_index, slice_range};
 ghost use Rattle.part_recv.specs.Taking.{IsArrival, bytes_in};
 
 use pair_rule::{Content, Shelf};
@@ -115,6 +115,26 @@ impl<C: Content> Arrival<C> {
             let end = at + buf.len();
             buf.copy_into(&mut out[at..end]);
             at = end;
+        }
+    }
+
+    /// Copies the bytes from `start` on, as many as `out` has, cell by cell.
+    pub fn copy_range(&self, start: u32, out: &mut [u8])
+        requires { start + length out.old ≤ length self.now.bytes }
+        ensures { out.new ≡ slice_range self.now.bytes start (start + length out.old) }
+    {
+        let mut skip = start as usize;
+        let mut at = 0;
+        for cell in 0..self.shelf.len() {
+            if at == out.len() {
+                return;
+            }
+            let bytes = self.shelf.buf(cell).as_slice();
+            let first = skip.min(bytes.len());
+            let count = (bytes.len() - first).min(out.len() - at);
+            out[at..at + count].copy_from_slice(&bytes[first..first + count]);
+            skip -= first;
+            at += count;
         }
     }
 }
