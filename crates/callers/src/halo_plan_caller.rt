@@ -1,7 +1,7 @@
 #![tactic(auto)]
 
 ghost use Rattle.std.specs.Prelude.{◌≡◌, ◌*◌};
-ghost use Rattle.halo_plan.specs.declared.TheConstants.{ELEMENT_BYTES};
+ghost use Rattle.halo_message.specs.declared.TheConstants.{ELEMENT_BYTES};
 ghost use Rattle.halo_plan.specs.Plan.{elements};
 
 use halo_plan::HaloPlan;

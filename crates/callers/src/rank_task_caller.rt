@@ -2,9 +2,9 @@
 
 ghost use Rattle.std.specs.Prelude.{◌≡◌, ◌*◌, length, OnOk};
 ghost use Rattle.std.specs.List.{All};
-ghost use Rattle.halo_plan.specs.declared.TheConstants.{ELEMENT_BYTES};
+ghost use Rattle.halo_message.specs.declared.TheConstants.{ELEMENT_BYTES};
 ghost use Rattle.halo_plan.specs.Plan.{elements, values};
-ghost use Rattle.halo_plan.specs.Elements.{IsWord};
+ghost use Rattle.halo_message.specs.Elements.{IsWord};
 
 use halo_plan::HaloPlan;
 use rank_task::{pair_at_rest, pass};

@@ -23,6 +23,7 @@ use Rattle.halo_plan.specs.Edges.{edges}
 use Rattle.halo_plan.specs.Worlds.{HasCalls, IsWorldOf, calls_of_edge, calls_of_pair, recv_of, send_of}
 use Rattle.halo_plan.proofs.EdgeFacts.{behind, down, up, edge-even, edge-odd}
 
+-- the calls of an edge, and its key
 abbrev pub two_calls : Plan → Edge → List Call
 two_calls p e = send_of p e ∷ recv_of p e ∷ []
 
@@ -41,6 +42,7 @@ other-key : (side : Side) (key : Key) (c : Call) → same_key key c.key ≡ fals
 other-key SendSide key c apart = elim (cases_Bool (same_side SendSide c.side)) [ inl yes' ↦ rw (yes', apart) refl | inr no' ↦ rw no' refl ]
 other-key RecvSide key c apart = elim (cases_Bool (same_side RecvSide c.side)) [ inl yes' ↦ rw (yes', apart) refl | inr no' ↦ rw no' refl ]
 
+-- edges of other keys have no call of a key
 none-before : (p : Plan) (side : Side) (key : Key) (es : List Edge) (rest : List Call) (n : ℕ) → Others key es
     → filter (λ (x : ℕ × Call). is_of side key x.1) (enumerate_from n (flat_map (two_calls p) es ++ rest))
     ≡ filter (λ (x : ℕ × Call). is_of side key x.1) (enumerate_from (n + length (flat_map (two_calls p) es)) rest)
@@ -51,11 +53,13 @@ none-before p side key (e ∷ es) rest n others =
     rw (other-key side key (send_of p e) others.0, other-key side key (recv_of p e) others.0)
     (more ∙ ap (λ m. filter (λ (x : ℕ × Call). is_of side key x.1) (enumerate_from m rest)) place)
 
+-- a key is the same as itself
 same-self : (k : Key) → same_key k k ≡ true
 same-self k = rw (eq-eqb k.comm k.comm refl, eq-eqb k.from k.from refl, eq-eqb k.to k.to refl, eq-eqb k.tag k.tag refl) refl
 
 -- ---- the pairs
 
+-- an edge's send completes no pair: no receive of its key stands before it
 send-alone : (p : Plan) (before : List Edge) (e : Edge) → Others (key_of e) before → completed_by (flat_map (two_calls p) before) (send_of p e) ≡ None
 unfolding of_key
 send-alone p before e others =
@@ -64,9 +68,11 @@ send-alone p before e others =
     ∙ none-before p RecvSide (key_of e) before [] 0 others in
     rw none refl
 
+-- the pair of an edge whose send is call n
 abbrev pair_at : Plan → ℕ → Edge → Pair
 pair_at p n e = record { send = (n, send_of p e); recv = (n + 1, recv_of p e) }
 
+-- its receive completes a pair with that send
 recv-pairs : (p : Plan) (before : List Edge) (e : Edge) → Others (key_of e) before
     → completed_by (flat_map (two_calls p) before ++ send_of p e ∷ []) (recv_of p e) ≡ Some (pair_at p (length (flat_map (two_calls p) before)) e)
 unfolding of_key
@@ -83,6 +89,7 @@ recv-pairs p before e others =
 abbrev pub AreApart : List Edge → Type 0
 AreApart es = (i j : ℕ) (a b : Edge) → slice_get es i ≡ Some a → slice_get es j ≡ Some b → key_of a ≡ key_of b → i ≡ j
 
+-- keys that test the same are one
 same-keys : (a b : Key) → same_key a b ≡ true → a ≡ b
 same-keys a b is =
     let one = and_parts (a.comm == b.comm) ((a.from == b.from) && ((a.to == b.to) && (a.tag == b.tag))) is in
@@ -92,10 +99,12 @@ same-keys a b is =
     let to = eqb-true a.to b.to three.0 in let tag = eqb-true a.tag b.tag three.1 in
     λ i. record { comm = comm i; from = from i; to = to i; tag = tag i }
 
+-- the edge behind a list
 get-behind : (xs : List Edge) (e : Edge) (ys : List Edge) → slice_get (xs ++ e ∷ ys) (length xs) ≡ Some e
 get-behind [] e ys = refl
 get-behind (x ∷ xs) e ys = get-behind xs e ys
 
+-- where edges with one key are one, those before an edge have other keys
 others-from : (front before : List Edge) (e : Edge) (es : List Edge) → AreApart (front ++ (before ++ e ∷ es)) → Others (key_of e) before
 others-from front [] e es apart = tt
 others-from front (f ∷ before) e es apart = (
@@ -112,6 +121,7 @@ others-from front (f ∷ before) e es apart = (
   others-from (front ++ f ∷ []) before e es (subst AreApart (sym (append_assoc front (f ∷ []) (before ++ e ∷ es))) apart),
 )
 
+-- the calls of further edges complete those edges' pairs, in order
 pairs-behind : (p : Plan) (before es : List Edge) → AreApart (before ++ es)
     → map calls_of_pair (pairs_after (flat_map (two_calls p) before) (flat_map (two_calls p) es)) ≡ map (calls_of_edge p) es
 pairs-behind p before [] apart = refl
@@ -125,13 +135,17 @@ pairs-behind p before (e ∷ es) apart =
     rw (send-alone p before e others, recv-pairs p before e others)
     (ap (λ xs. (send_of p e, recv_of p e) ∷ map calls_of_pair (pairs_after xs rest)) next ∙ ap (λ xs. (send_of p e, recv_of p e) ∷ xs) more)
 
--- the edges of a plan have keys of their own
+-- ---- the edges of a plan have keys of their own
+
+-- a number is even or odd
 tag-even : (e : ℕ) → (e ≡ 2 * (e / 2)) ⊎ (e ≡ 2 * (e / 2) + 1)
 tag-even e = elim (cases_lt 0 (e % 2)) [ inl more ↦ inr (omega arith) | inr none ↦ inl (omega arith) ]
 
+-- equal places with equal keys have edges with equal keys
 key-down : (a b c d : Edge) → Some a ≡ Some b → Some c ≡ Some d → key_of a ≡ key_of c → key_of b ≡ key_of d
 key-down a b c d x y is = cc
 
+-- edges of a plan with one key are one
 pub edges-apart : (p : Plan) → AreApart (edges p)
 edges-apart p i j a b at bt same =
     let x = slice_get_within (edges p) i a at in
@@ -153,10 +167,12 @@ edges-apart p i j a b at bt same =
 
 -- ---- the world
 
+-- one map after another
 map-map : {A B C : Type 0} (f : B → C) (g : A → B) (xs : List A) → map f (map g xs) ≡ map (λ x. f (g x)) xs
 map-map f g [] = refl
 map-map f g (x ∷ xs) = ap (λ ys. f (g x) ∷ ys) (map-map f g xs)
 
+-- a world with the calls of the edges is the world of the plan
 pub world-of : (p : Plan) (w : WorldState) → HasCalls p (edges p) w → IsWorldOf p w
 unfolding pairs_of
 world-of p w h =
@@ -174,6 +190,7 @@ world-of p w h =
           ∙ rw (h.grain, h.depth) refl;
     }
 
+-- the calls of an edge more
 pub calls-next : (p : Plan) (es : List Edge) (e : ℕ) (d : Edge) (w new : WorldState) → HasCalls p (take e es) w → slice_get es e ≡ Some d
     → new ≡ record w { calls = w.calls ++ send_of p d ∷ recv_of p d ∷ [] } → HasCalls p (take (e + 1) es) new
 calls-next p es e d w new h at is =

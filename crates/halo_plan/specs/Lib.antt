@@ -2,5 +2,4 @@ pub mod Plan
 pub mod Kept
 pub mod Edges
 pub mod Making
-pub mod Elements
 pub mod Worlds

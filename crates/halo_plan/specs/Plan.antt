@@ -1,13 +1,12 @@
--- A plan: how the rows of a grid go to ranks, and how long the messages between ranks are.
-use Rattle.std.specs.Prelude.{◌⊎◌, ℕ, ◌+◌, ◌*◌, ◌/◌, ◌%◌, ◌≤◌, Bool, ◌&&◌, ◌==◌, Option, IsTrue, find, is_some}
-use Rattle.std.specs.Prelude.{unwrap_or}
-use Rattle.std.specs.List.{range_with_len}
+-- A plan: how the rows of a grid go to ranks, and which message passes between ranks.
+use Rattle.std.specs.Prelude.{◌⊎◌, ℕ, ◌+◌, ◌*◌, ◌/◌, ◌≤◌, IsTrue}
 use Rattle.part_geometry.specs.declared.TheConstants.{MAX_DEPTH, MAX_GRAIN, MAX_PARTS, MAX_RANKS}
 use Rattle.part_geometry.specs.Shape.{IsWithin, Shape}
 use Rattle.stencil_def.specs.declared.limits.TheConstants.{MAX_CELLS}
 use Rattle.stencil_def.specs.declared.rule.Around.{Around}
 use Rattle.stencil_def.specs.Limits.{IsSide}
-use Rattle.halo_plan.specs.declared.TheConstants.{ELEMENT_BYTES, MAX_MULTIPLE}
+use Rattle.halo_message.specs.Message as message
+use Rattle.halo_message.specs.Message.{Message, shares_few}
 
 -- the rows and columns of the grid, how many ranks there are, the partitions of both sides of a message, the least
 -- bytes of a piece, how many rounds may be in flight, how far the weights reach, and what lies outside the grid
@@ -34,37 +33,23 @@ block_of p i = (first_row p i, first_row p (i + 1))
 abbrev pub values : Plan → ℕ
 values p = p.reach * p.cols
 
--- n is a multiple of both numbers
-abbrev pub is_shared : ℕ → ℕ → ℕ → Bool
-is_shared send_parts recv_parts n = (n % send_parts == 0) && (n % recv_parts == 0)
-
--- the first of the 8,192 numbers from one on that is
-unfoldable pub first_shared : ℕ → ℕ → ℕ → Option ℕ
-first_shared send_parts recv_parts from = find (is_shared send_parts recv_parts) (range_with_len from MAX_MULTIPLE)
-
--- the least common multiple of both numbers is at most 8,192
-abbrev pub shares_few : ℕ → ℕ → Bool
-shares_few send_parts recv_parts = is_some (first_shared send_parts recv_parts 1)
-
--- how many elements a message has: the least number from that of its values on that is a multiple of both numbers of
--- partitions
-abbrev pub elements : Plan → ℕ
-elements p = unwrap_or (first_shared p.send_parts p.recv_parts (values p)) 0
-
--- how both sides cut n elements
-abbrev pub cut_as : ℕ → ℕ → ℕ → ℕ → ℕ → Shape
-cut_as n send_parts recv_parts grain depth = record {
-  send_parts = send_parts;
-  send_bytes = n / send_parts * ELEMENT_BYTES;
-  recv_parts = recv_parts;
-  recv_bytes = n / recv_parts * ELEMENT_BYTES;
-  grain = grain;
-  depth = depth;
+-- the message of an edge
+abbrev pub message_of : Plan → Message
+message_of p = record {
+  values = values p;
+  send_parts = p.send_parts;
+  recv_parts = p.recv_parts;
+  grain = p.grain;
+  depth = p.depth;
 }
 
--- how both sides cut a message
+-- how many elements it has
+abbrev pub elements : Plan → ℕ
+elements p = message.elements (message_of p)
+
+-- how both sides cut it
 abbrev pub shape_of : Plan → Shape
-shape_of p = cut_as (elements p) p.send_parts p.recv_parts p.grain p.depth
+shape_of p = message.shape_of (message_of p)
 
 -- the limits of a plan: with two ranks or more, each has as many rows as the weights reach
 pub record IsPlan (p : Plan) : Type 0 where

@@ -2,20 +2,12 @@
 #![tactic(auto)]
 
 mod edge;
-mod elements;
-mod parts;
 mod plan;
+mod rows;
 mod world;
 
 pub use edge::Edge;
-pub use parts::shares_few;
 pub use plan::{HaloPlan, PlanFault};
-
-/// The greatest least common multiple of the numbers of partitions of the two sides.
-pub const MAX_MULTIPLE: u32 = 8192;
-
-/// How many bytes an element of a message has.
-pub const ELEMENT_BYTES: u32 = 8;
 
 /// The tag of an edge that brings a rank the rows before its own.
 pub const DOWN: u32 = 1;

@@ -1,20 +1,20 @@
 //! The plan.
 
-ghost use Rattle.std.specs.Prelude.{◌≡◌, ◌<◌, ◌≤◌, ◌+◌, ◌-◌, ◌*◌, ◌==◌, if◌then◌else◌, IsTrue, Ok, Some, true};
+ghost use Rattle.std.specs.Prelude.{◌≡◌, ◌<◌, ◌≤◌, ◌+◌, ◌-◌, ◌*◌, ◌==◌, if◌then◌else◌, IsTrue, Some};
 ghost use Rattle.std.specs.Prelude.{length, slice_get, IfOk};
 ghost use Rattle.part_geometry.specs.declared.TheConstants.{MAX_DEPTH, MAX_GRAIN, MAX_PARTS, MAX_RANKS};
-ghost use Rattle.part_geometry.specs.Shape.{IsShape, IsWithin, send_total};
+ghost use Rattle.part_geometry.specs.Shape.{IsWithin};
 ghost use Rattle.stencil_def.specs.declared.limits.TheConstants.{MAX_CELLS};
 ghost use Rattle.stencil_def.specs.Limits.{IsSide};
-ghost use Rattle.halo_plan.specs.declared.TheConstants.{DOWN, ELEMENT_BYTES, UP};
-ghost use Rattle.halo_plan.specs.Plan.{IsPlan, block_of, cut_as, elements, first_row, is_shared, shape_of};
-ghost use Rattle.halo_plan.specs.Plan.{shares_few, values};
+ghost use Rattle.halo_message.specs.Message.{shares_few};
+ghost use Rattle.halo_plan.specs.declared.TheConstants.{DOWN, UP};
+ghost use Rattle.halo_plan.specs.Plan.{IsPlan, block_of, first_row, message_of};
 ghost use Rattle.halo_plan.specs.Edges.{edges, goes_round};
 ghost use Rattle.halo_plan.specs.Making.{needs_more, plan_answer};
 
-use crate::parts::first_shared;
-use crate::{DOWN, ELEMENT_BYTES, Edge, UP};
-use part_geometry::{Geometry, GeometryFault};
+use crate::{DOWN, Edge, UP};
+use halo_message::Message;
+use part_geometry::GeometryFault;
 use std::marker::Model;
 use stencil_def::Around;
 
@@ -37,8 +37,7 @@ pub struct HaloPlan {
     ranks: u32,
     reach: u32,
     around: Around,
-    elements: u32,
-    geometry: Geometry,
+    message: Message,
 }
 
 impl Model for HaloPlan {
@@ -60,28 +59,6 @@ fn needs_more(rows: u32, ranks: u32, reach: u32) -> bool
     ensures { result ≡ needs_more rows ranks reach }
 {
     ranks >= 2 && ranks * reach > rows
-}
-
-/// How both sides cut a message of so many elements, a multiple of both numbers of partitions.
-fn cut(
-    elements: u32,
-    send_parts: u32,
-    recv_parts: u32,
-    grain: u32,
-    depth: u32,
-) -> Result<Geometry, GeometryFault>
-    requires elements { IsWithin 1 16383 elements }
-    requires shared { is_shared send_parts recv_parts elements ≡ true }
-    requires send_parts { IsWithin 1 MAX_PARTS send_parts }
-    requires recv_parts { IsWithin 1 MAX_PARTS recv_parts }
-    requires grain { IsWithin 1 MAX_GRAIN grain }
-    requires depth { IsWithin 1 MAX_DEPTH depth }
-    ensures value { result ≡ Ok (cut_as elements send_parts recv_parts grain depth) }
-    ensures limits { IfOk result IsShape }
-{
-    let send_bytes = elements / send_parts * ELEMENT_BYTES;
-    let recv_bytes = elements / recv_parts * ELEMENT_BYTES;
-    Geometry::new(send_parts, send_bytes, recv_parts, recv_bytes, grain, depth)
 }
 
 impl HaloPlan {
@@ -126,19 +103,15 @@ impl HaloPlan {
         if needs_more(rows, ranks, reach) {
             return Err(PlanFault::TooManyRanks { ranks, rows });
         }
-        let elements = first_shared(send_parts, recv_parts, reach * cols).unwrap();
-        match cut(elements, send_parts, recv_parts, grain, depth) {
-            Ok(geometry) => Ok(HaloPlan {
-                rows,
-                cols,
-                ranks,
-                reach,
-                around,
-                elements,
-                geometry,
-            }),
-            Err(fault) => Err(PlanFault::Shape(fault)),
-        }
+        let message = Message::new(reach * cols, send_parts, recv_parts, grain, depth);
+        Ok(HaloPlan {
+            rows,
+            cols,
+            ranks,
+            reach,
+            around,
+            message,
+        })
     }
 
     /// How many rows the grid has.
@@ -282,22 +255,11 @@ impl HaloPlan {
         }
     }
 
-    /// How many elements a message has: the least number from that of its values on that is a multiple of the numbers
-    /// of partitions of both sides.
-    pub fn elements(&self) -> u32
-        ensures value { result ≡ elements self.now }
-        ensures enough { values self.now ≤ result }
+    /// The message of each edge: as many rows as the weights reach, one after another.
+    pub fn message(&self) -> &Message
+        ensures value { result.now ≡ message_of self.now }
         ensures limits { IsPlan self.now }
     {
-        self.elements
-    }
-
-    /// How both sides of each edge cut its messages.
-    pub fn geometry(&self) -> Geometry
-        ensures value { result ≡ shape_of self.now }
-        ensures whole { send_total result ≡ elements self.now * ELEMENT_BYTES }
-        ensures limits { IsShape result }
-    {
-        self.geometry
+        &self.message
     }
 }

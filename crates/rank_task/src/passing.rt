@@ -1,16 +1,14 @@
-//! A message through a pair.
+//! The rows of an edge through its pair.
 
-ghost use Rattle.std.specs.Prelude.{◌≡◌, ◌<◌, ◌≤◌, ◌+◌, ◌-◌, ◌*◌, length, IfOk};
-ghost use Rattle.part_geometry.specs.declared.TheConstants.{LAST_ROUND};
-ghost use Rattle.part_geometry.specs.Shape.{Shape, send_total};
-ghost use Rattle.halo_plan.specs.declared.TheConstants.{ELEMENT_BYTES};
-ghost use Rattle.halo_plan.specs.Plan.{elements, shape_of, values};
-ghost use Rattle.halo_plan.specs.Elements.{IsWord, encoded};
+ghost use Rattle.std.specs.Prelude.{◌≡◌, ◌≤◌, ◌-◌, ◌*◌, length, IfOk};
 ghost use Rattle.std.specs.List.{All};
-ghost use Rattle.rank_task.specs.Passing.{IsMarking, IsTaking, RestsAt, Stands};
+ghost use Rattle.part_geometry.specs.declared.TheConstants.{LAST_ROUND};
+ghost use Rattle.halo_message.specs.declared.TheConstants.{ELEMENT_BYTES};
+ghost use Rattle.halo_message.specs.Elements.{IsWord};
+ghost use Rattle.halo_message.specs.Passing.{RestsAt};
+ghost use Rattle.halo_plan.specs.Plan.{elements, shape_of, values};
 
 use halo_plan::HaloPlan;
-use part_geometry::Geometry;
 use plain_pair::PlainPair;
 use std::alloc::{AllocError, Global};
 
@@ -18,23 +16,7 @@ use std::alloc::{AllocError, Global};
 pub fn pair_at_rest(alloc: Global, plan: &HaloPlan) -> Result<PlainPair, AllocError>
     ensures { IfOk result (RestsAt (shape_of plan.now) 0) }
 {
-    PlainPair::create(alloc, plan.geometry())
-}
-
-/// Starts the sender's next round, and marks each of its partitions with its part of the message.
-fn send(pair: &mut PlainPair, geometry: Geometry, round: u32, message: &[u8])
-    requires rests { RestsAt geometry (round - 1) pair.old }
-    requires round { 1 ≤ round }
-    requires last { round ≤ LAST_ROUND }
-    requires message { length message.now ≡ send_total geometry }
-    ensures marked { Stands geometry pair.new (IsMarking geometry round message.now geometry.send_parts) }
-{
-    let size = geometry.send_bytes() as usize;
-    let _started = pair.start_send();
-    for p in 0..geometry.send_parts() {
-        let start = p as usize * size;
-        let _marked = pair.pready(round, p, &message[start..start + size]);
-    }
+    halo_message::pair_at_rest(alloc, plan.message())
 }
 
 /// Passes the rows of an edge through its pair in the pair's next round, which is `round`, from 1 to 2,147,483,647: all
@@ -59,26 +41,5 @@ pub fn pass(
     ensures rests { RestsAt (shape_of plan.now) round pair.new }
     ensures rows { out.new ≡ rows.now }
 {
-    let geometry = plan.geometry();
-    // The plan's message has all values, for the proof.
-    let _elements = plan.elements();
-    plan.encode_rows(rows, message);
-    send(pair, geometry, round, message);
-    let _started = pair.start_recv();
-    for q in 0..geometry.recv_parts() {
-        let (start, end) = plan.part(q);
-        match pair.take(q) {
-            Ok(arrival) => {
-                plan.decode_bytes(
-                    q,
-                    arrival.as_slice(),
-                    &mut out[start as usize..end as usize],
-                );
-                pair.give_back(arrival);
-            }
-            Err(_) => unreachable!(),
-        }
-    }
-    let _released = pair.test_recv();
-    let _sent = pair.test_send();
+    halo_message::pass(pair, plan.message(), round, rows, message, out);
 }

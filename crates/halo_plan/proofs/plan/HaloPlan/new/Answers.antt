@@ -1,25 +1,10 @@
-use Rattle.std.proofs.Common.{◌∙◌, sym, ◌*◌, arith}
+use Rattle.std.proofs.Common.{◌∙◌, sym}
 use Rattle.halo_plan.specs.Plan.{IsPlan, Plan}
-use Rattle.std.proofs.lemmas.Nat.{mul-le}
-use Rattle.halo_plan.proofs.Planning.{kept, ok-same, elements-from, fits-from, shared-there}
+use Rattle.halo_plan.proofs.Planning.{few-values, fits-from, kept}
 use Rattle.halo_plan.proofs.plan.HaloPlan.new.Goals as goal
 
-pub unwrap-elements-requires : goal.unwrap-elements-requires
-unwrap-elements-requires c =
-    let s = c.requires.send_parts in let r = c.requires.recv_parts in
-    rw c.first_shared.ensures (shared-there c.args.send_parts c.args.recv_parts (c.args.reach * c.args.cols) s.0 r.0 c.requires.multiple)
-
-pub cut-requires-clause-elements : goal.cut-requires-clause-elements
-cut-requires-clause-elements c =
-    let e = elements-from c.args.send_parts c.args.recv_parts (c.args.reach * c.args.cols) c.unwrap-elements.result (sym c.first_shared.ensures ∙ c.unwrap-elements.ensures) in
-    let enough = e.enough in let few = e.few in
-    let reach = c.requires.reach in let cols = c.requires.cols in
-    let least = mul-le 1 1 c.args.reach c.args.cols reach.0 cols.0 in
-    let most = mul-le c.args.reach c.args.cols 2 4096 reach.1 cols.1 in
-    (omega arith, omega arith)
-
-pub cut-requires-clause-shared : goal.cut-requires-clause-shared
-cut-requires-clause-shared c = (elements-from _ _ _ _ (sym c.first_shared.ensures ∙ c.unwrap-elements.ensures)).shared
+pub new-message-requires-clause-values : goal.new-message-requires-clause-values
+new-message-requires-clause-values c = few-values c.args.reach c.args.cols c.requires.reach c.requires.cols
 
 pub invariant_of-result : goal.invariant_of-result
 invariant_of-result c =
@@ -38,4 +23,4 @@ invariant_of-result c =
       depth = q.depth;
       reach = q.reach;
     } in
-    kept p c.unwrap-elements.result c.in-Ok.geometry s (sym c.first_shared.ensures ∙ c.unwrap-elements.ensures) (ok-same _ _ (sym c.in-Ok.is ∙ c.cut.ensures.value)) c.in-Ok.ensures.limits
+    kept p c.new-message.result s c.new-message.ensures.value

@@ -1,0 +1,4 @@
+pub mod Message
+pub mod Kept
+pub mod Elements
+pub mod Passing

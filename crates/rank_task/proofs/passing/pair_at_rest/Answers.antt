@@ -1,8 +1,0 @@
-use Rattle.std.proofs.Common.{◌≡◌, subst, IfOk}
-use Rattle.halo_plan.specs.Plan.{shape_of}
-use Rattle.rank_task.proofs.PassFacts.{first-ok}
-use Rattle.rank_task.proofs.passing.pair_at_rest.Goals as goal
-
-pub returns : goal.returns
-returns c =
-    first-ok (shape_of c.args.plan.now) c.create.result (subst (λ g. IfOk c.create.result (λ pair. pair.shape ≡ g)) c.geometry.ensures.value c.create.ensures.shape) c.create.ensures.first
