@@ -4,6 +4,7 @@ use Rattle.std.proofs.Common.{◌≡◌, ◌∙◌, refl, sym, ap, subst, ℕ, �
 use Rattle.std.specs.Prelude.{◌⊎◌, nat_lt, true}
 use Rattle.std.specs.List.{All}
 use Rattle.std.proofs.lemmas.Bool.{cases_eq, lt-ltb}
+use Rattle.std.proofs.lemmas.Int.{ints}
 use Rattle.std.proofs.lemmas.Nat.{mul-le, mul-add-lt}
 use Rattle.std.proofs.Math.Nat.{mod-eq_of_lt}
 use Rattle.std.specs.Simd.Lanes.{chunk}
@@ -19,7 +20,7 @@ use Rattle.stencil_def.specs.Step.{cell_or, place, read, sum_below, weighted, wi
 use Rattle.stencil_def.proofs.StepFacts.{next-cells}
 use Rattle.cell_lanes.specs.Window.{met, row_sum_at, sum_at}
 use Rattle.cell_lanes.specs.Padding.{end_or, or_edge, with_ends}
-use Rattle.cell_lanes.specs.Block.{Part, Holds, HoldsMiddle, HoldsRow, IsInside, IsPart, SameRow, at, part_of, width}
+use Rattle.cell_lanes.specs.Block.{Part, Holds, HoldsMiddle, HoldsOwnBelow, HoldsOwnRow, HoldsRow, IsInside, IsPart, SameRow, at, part_of, width}
 use Rattle.cell_lanes.proofs.WindowFacts.{below-or}
 use Rattle.cell_lanes.proofs.PaddedFacts.{all-put, sum-same}
 use Rattle.cell_lanes.proofs.RowFacts.{end-same, part-at}
@@ -65,15 +66,11 @@ new-cell-at g rule top left b w d row col weights div reach holds inside h l =
     ∙ ap (λ z. clamped (int_div z rule.div)) (window-sum-is g rule top left b row col (sym (ap (λ (v : Square). v.reach) weights) ∙ reach) holds h l)
     ∙ sym (next-cells g rule (top + row) (left + col) (omega arith) (omega arith))
 
--- the first n own rows are those of a grid
-abbrev pub OwnBelow : Plane → ℕ → ℕ → ℕ → Part → Type 0
-OwnBelow g top left n b = (row col : ℕ) → row < n → col < b.cols → at b (b.reach + row) (b.reach + col) ≡ cell g (top + row) (left + col)
-
 -- one more own row was put at its place
-pub own-next : (g : Plane) (top left rows cols reach row start end : ℕ) (next new : List ℤ) → OwnBelow g top left row (part_of rows cols reach next)
+pub own-next : (g : Plane) (top left rows cols reach row start end : ℕ) (next new : List ℤ) → HoldsOwnBelow g top left row (part_of rows cols reach next)
     → start ≡ (reach + row) * (cols + 2 * reach) + reach → start + cols ≤ length next → length new ≡ cols
     → ((col : ℕ) → col < cols → get_or new col (pos 0) ≡ cell g (top + row) (left + col))
-    → OwnBelow g top left (row + 1) (part_of rows cols reach (take start next ++ (new ++ drop end (drop start next))))
+    → HoldsOwnBelow g top left (row + 1) (part_of rows cols reach (take start next ++ (new ++ drop end (drop start next))))
 own-next g top left rows cols reach row start end next new done place room long is r col less lt =
     let w = cols + 2 * reach in
     let rest = drop end (drop start next) in
@@ -156,6 +153,24 @@ row-apart rows cols reach y r xs new start k place wide room long apart x less =
 place-own : (around : Around) (n col : ℕ) → col < n → place around n (pos col) ≡ Some col
 place-own Fixed n col less = let t : nat_lt col n ≡ true = lt-ltb col n less in rw t refl
 place-own Wrap n col less = ap (λ (m : ℕ). Some m) (mod-eq_of_lt less)
+
+-- inside the grid its cell is read
+read-cell : (g : Plane) (rule : Rule) (row col : ℕ) → row < g.rows → col < g.cols → read g rule (pos row) (pos col) ≡ cell g row col
+unfolding read
+read-cell g rule row col h l =
+    ap (λ o. cell_or g rule.edge o (place rule.around g.cols (pos col))) (place-own rule.around g.rows row h)
+    ∙ ap (cell_or g rule.edge (Some row)) (place-own rule.around g.cols col l)
+
+-- the own cells of a part that holds the grid's reading are the grid's
+pub own-held : (g : Plane) (rule : Rule) (top left row : ℕ) (b : Part) → Holds g rule top left b → IsInside g top left b → row < b.rows → HoldsOwnRow g top left row b
+own-held g rule top left row b holds inside less col l =
+    let rows = inside.rows_fit in
+    let cols = inside.cols_fit in
+    let down : pos (top + (b.reach + row)) -ℤ pos b.reach ≡ pos (top + row) = omega (arith, ints) in
+    let right : pos (left + (b.reach + col)) -ℤ pos b.reach ≡ pos (left + col) = omega (arith, ints) in
+    holds (b.reach + row) (b.reach + col) (omega arith) (omega arith)
+    ∙ ap (λ z. read g rule z (pos (left + (b.reach + col)) -ℤ pos b.reach)) down ∙ ap (read g rule (pos (top + row))) right
+    ∙ read-cell g rule (top + row) (left + col) (omega arith) (omega arith)
 
 by-row : (g : Plane) (rule : Rule) (x : ℕ) (o : Option ℕ) → 0 < g.cols
     → end_or rule g.cols (λ col. cell_or g rule.edge o (place rule.around g.cols (pos col))) x ≡ cell_or g rule.edge o (place rule.around g.cols (pos x -ℤ pos rule.weights.reach))

@@ -1,5 +1,6 @@
 -- The padded grid after a number of steps: padded by the new cells of one grid, it is padded by the cells of the next.
-use Rattle.std.proofs.Common.{◌≡◌, ◌∙◌, sym, ap, subst, ℕ, ◌+◌, ◌*◌, ◌<◌, ℤ, List, Result, Ok, Err, IfOk, arith}
+use Rattle.std.proofs.Common.{◌≡◌, ◌∙◌, sym, ap, subst, ℕ, ◌+◌, ◌*◌, ◌<◌, ℤ, List, ◌++◌, length, take, drop, Result, Ok, Err, IfOk, arith}
+use Rattle.std.proofs.Math.Seq.{take-append_seam}
 use Rattle.stencil_def.specs.declared.rule.Rule.{Rule}
 use Rattle.stencil_def.specs.Plane.{Plane, cell}
 use Rattle.stencil_def.specs.Step.{new_cell, next_plane, fold_plane}
@@ -41,3 +42,8 @@ length-first g rule rows cols size e f long = long ∙ (ap (λ n. with_ends rule
 pub if-ok : {T E : Type 0} (P Q : T → Type 0) (r : Result T E) → ((x : T) → P x → Q x) → IfOk r P → IfOk r Q
 if-ok P Q (Ok x) f h = f x h
 if-ok P Q (Err e) f h = tt
+
+-- a list that was lent whole is what was written to it
+pub lent-whole : {X : Type 0} (old new : List X) (n : ℕ) → n ≡ length old → length new ≡ length old → take n (new ++ drop (length new) old) ≡ new
+lent-whole old new n long same =
+    ap (λ k. take k (new ++ drop (length new) old)) (long ∙ sym same) ∙ take-append_seam new (drop (length new) old)

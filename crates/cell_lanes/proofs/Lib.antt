@@ -11,3 +11,5 @@ pub mod ReadyFacts
 pub mod ReciprocalFacts
 pub mod WindowFacts
 pub mod BlockFacts
+pub mod ChangeFacts
+pub mod StopFacts

@@ -36,6 +36,16 @@ abbrev pub HoldsOwn : Plane → ℕ → ℕ → Part → Type 0
 HoldsOwn g top left b = (row col : ℕ) → row < b.rows → col < b.cols
     → at b (b.reach + row) (b.reach + col) ≡ cell g (top + row) (left + col)
 
+-- its own cells in this row are those of the grid
+abbrev pub HoldsOwnRow : Plane → ℕ → ℕ → ℕ → Part → Type 0
+HoldsOwnRow g top left row b = (col : ℕ) → col < b.cols
+    → at b (b.reach + row) (b.reach + col) ≡ cell g (top + row) (left + col)
+
+-- its first n own rows are those of the grid
+abbrev pub HoldsOwnBelow : Plane → ℕ → ℕ → ℕ → Part → Type 0
+HoldsOwnBelow g top left n b = (row col : ℕ) → row < n → col < b.cols
+    → at b (b.reach + row) (b.reach + col) ≡ cell g (top + row) (left + col)
+
 -- it lies inside the grid, without the halo
 pub record IsInside (g : Plane) (top left : ℕ) (b : Part) : Type 0 where
   pub rows_fit : top + b.rows ≤ g.rows

@@ -1,4 +1,5 @@
 pub mod Block
+pub mod Change
 pub mod Lanes
 pub mod Mirror
 pub mod Padding

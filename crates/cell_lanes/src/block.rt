@@ -7,10 +7,13 @@ ghost use Rattle.stencil_def.specs.declared.rule.Rule.{Rule};
 ghost use Rattle.stencil_def.specs.Limits.{IsSide, IsValue, IsWithin};
 ghost use Rattle.stencil_def.specs.Plane.{Plane, IsPlane};
 ghost use Rattle.stencil_def.specs.Step.{next_plane};
-ghost use Rattle.cell_lanes.specs.Block.{Holds, HoldsMiddle, HoldsOwn, HoldsRow, IsInside, IsPart, SameRow, SameSize};
+ghost use Rattle.cell_lanes.specs.Block.{Holds, HoldsMiddle, HoldsOwn, HoldsOwnBelow, HoldsRow};
+ghost use Rattle.cell_lanes.specs.Block.{IsInside, IsPart, SameRow, SameSize};
 ghost use Rattle.cell_lanes.specs.Block.{height, own_cells, part_of, width, with_cells};
+ghost use Rattle.cell_lanes.specs.Change.{IsChange, change_within};
 ghost use Rattle.cell_lanes.specs.Padding.{end_or, with_ends};
 
+use crate::change::row_change;
 use crate::padded::zeros;
 use crate::row::set_ends;
 use crate::{Divisor, LaneWeights, new_cells};
@@ -45,6 +48,36 @@ impl Model for Block {
         × IsPart (part_of b.rows b.cols b.reach b.next.items) };
 }
 
+/// Computes the own cells of a row of a part, whose values these are, into the same places of `next`.
+fn next_own_row(
+    values: &[i64],
+    rows: u32,
+    cols: u32,
+    reach: u32,
+    row: u32,
+    weights: &LaneWeights,
+    divisor: &Divisor,
+    next: &mut [i64],
+)
+    requires part { IsPart (part_of rows cols reach values.now) }
+    requires next { IsPart (part_of rows cols reach next.old) }
+    requires reach { weights.now.reach ≡ reach }
+    requires row { row < rows }
+    ensures own { (g : Plane) (rule : Rule) (top left : ℕ) → weights.now ≡ rule.weights → divisor.now ≡ rule.div →
+        Holds g rule top left (part_of rows cols reach values.now) →
+        IsInside g top left (part_of rows cols reach values.now) →
+        HoldsOwnBelow (next_plane g rule) top left row (part_of rows cols reach next.old) →
+        HoldsOwnBelow (next_plane g rule) top left (row + 1) (part_of rows cols reach next.new) }
+    ensures limits { IsPart (part_of rows cols reach next.new) }
+{
+    let width = cols + 2 * reach;
+    let above = (row * width) as usize;
+    let start = ((reach + row) * width + reach) as usize;
+    let window = &values[above..above + ((2 * reach + 1) * width) as usize];
+    let cells = &mut next[start..start + cols as usize];
+    new_cells(window, width, weights, divisor, cells);
+}
+
 /// Computes the own cells of a part, whose values these are, into the own places of `next`.
 fn next_own(
     values: &[i64],
@@ -64,19 +97,41 @@ fn next_own(
         HoldsOwn (next_plane g rule) top left (part_of rows cols reach next.new) }
     ensures limits { IsPart (part_of rows cols reach next.new) }
 {
-    let width = cols + 2 * reach;
     for row in 0..rows {
-        let above = (row * width) as usize;
-        let start = ((reach + row) * width + reach) as usize;
-        let window = &values[above..above + ((2 * reach + 1) * width) as usize];
-        new_cells(
-            window,
-            width,
-            weights,
-            divisor,
-            &mut next[start..start + cols as usize],
-        );
+        next_own_row(values, rows, cols, reach, row, weights, divisor, next);
     }
+}
+
+/// The same, and the greatest change of an own cell. It is found in each row right after the row is computed.
+fn next_own_changed(
+    values: &[i64],
+    rows: u32,
+    cols: u32,
+    reach: u32,
+    weights: &LaneWeights,
+    divisor: &Divisor,
+    next: &mut [i64],
+) -> i64
+    requires part { IsPart (part_of rows cols reach values.now) }
+    requires next { IsPart (part_of rows cols reach next.old) }
+    requires reach { weights.now.reach ≡ reach }
+    ensures own { (g : Plane) (rule : Rule) (top left : ℕ) → weights.now ≡ rule.weights → divisor.now ≡ rule.div →
+        Holds g rule top left (part_of rows cols reach values.now) →
+        IsInside g top left (part_of rows cols reach values.now) →
+        HoldsOwn (next_plane g rule) top left (part_of rows cols reach next.new) }
+    ensures change { (g : Plane) (rule : Rule) (top left : ℕ) → weights.now ≡ rule.weights → divisor.now ≡ rule.div →
+        Holds g rule top left (part_of rows cols reach values.now) →
+        IsInside g top left (part_of rows cols reach values.now) →
+        result ≡ pos (change_within g (next_plane g rule) top rows left cols) }
+    ensures range { IsChange result }
+    ensures limits { IsPart (part_of rows cols reach next.new) }
+{
+    let mut most = 0;
+    for row in 0..rows {
+        next_own_row(values, rows, cols, reach, row, weights, divisor, next);
+        most = most.max(row_change(values, next, rows, cols, reach, row));
+    }
+    most
 }
 
 /// Puts values into the place of those from `start` on.
@@ -190,6 +245,34 @@ impl Block {
             &mut self.next,
         );
         mem::swap(&mut self.values, &mut self.next);
+    }
+
+    /// Makes a step as `step` does, and answers by how much the cell changed that changed most.
+    ///
+    /// Each row is compared right after it is computed.
+    pub fn step_changed(&mut self, weights: &LaneWeights, divisor: &Divisor) -> i64
+        requires reach { weights.now.reach ≡ self.old.reach }
+        ensures own { (g : Plane) (rule : Rule) (top left : ℕ) → weights.now ≡ rule.weights → divisor.now ≡ rule.div →
+            Holds g rule top left self.old → IsInside g top left self.old →
+            HoldsOwn (next_plane g rule) top left self.new }
+        ensures change { (g : Plane) (rule : Rule) (top left : ℕ) → weights.now ≡ rule.weights → divisor.now ≡ rule.div →
+            Holds g rule top left self.old → IsInside g top left self.old →
+            result ≡ pos (change_within g (next_plane g rule) top self.old.rows left self.old.cols) }
+        ensures range { IsChange result }
+        ensures size { SameSize self.old self.new }
+        ensures limits { IsPart self.new }
+    {
+        let most = next_own_changed(
+            &self.values,
+            self.rows,
+            self.cols,
+            self.reach,
+            weights,
+            divisor,
+            &mut self.next,
+        );
+        mem::swap(&mut self.values, &mut self.next);
+        most
     }
 
     /// The own cells of one of its own rows, from the left.

@@ -2,6 +2,7 @@
 #![tactic(auto)]
 
 mod block;
+mod change;
 mod divisor;
 mod lanes;
 mod mirrored;
@@ -12,7 +13,8 @@ mod sums;
 mod weights;
 
 pub use block::Block;
+pub use change::{MAX_CHANGE, greatest_change};
 pub use divisor::Divisor;
-pub use run::run_lanes;
+pub use run::{Stopped, run_lanes, run_until};
 pub use sums::{new_cells, window_sums};
 pub use weights::LaneWeights;

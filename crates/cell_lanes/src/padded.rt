@@ -4,9 +4,11 @@ ghost use Rattle.std.specs.Prelude.{◌≡◌, ℕ, ℤ, ◌+◌, ◌*◌, ◌<�
 ghost use Rattle.std.specs.List.{All};
 ghost use Rattle.stencil_def.specs.Limits.{IsSide, IsValue};
 ghost use Rattle.stencil_def.specs.Plane.{Plane, IsPlane, cell};
-ghost use Rattle.stencil_def.specs.Step.{new_cell};
+ghost use Rattle.stencil_def.specs.Step.{new_cell, next_plane};
+ghost use Rattle.cell_lanes.specs.Change.{IsChange, change};
 ghost use Rattle.cell_lanes.specs.Padding.{with_ends, end_or, row_value, IsPadded, RowsAre};
 
+use crate::change::row_change;
 use crate::row::{copied_row, end_value, next_row};
 use crate::{Divisor, LaneWeights};
 use std::alloc::{AllocError, Global};
@@ -105,6 +107,40 @@ fn copy_rows(grid: &Grid, rule: &Rule, values: &mut [i64])
     }
 }
 
+/// Computes a row of the next grid, with its ends.
+fn put_next_row(
+    values: &[i64],
+    rule: &Rule,
+    weights: &LaneWeights,
+    divisor: &Divisor,
+    rows: u32,
+    cols: u32,
+    row: u32,
+    next: &mut [i64],
+)
+    requires rows { IsSide rows }
+    requires cols { IsSide cols }
+    requires length { length values.now ≡ with_ends rule.now rows * with_ends rule.now cols }
+    requires same_length { length next.old ≡ length values.now }
+    requires values { All IsValue values.now }
+    requires next_values { All IsValue next.old }
+    requires weights { weights.now ≡ rule.now.weights }
+    requires divisor { divisor.now ≡ rule.now.div }
+    requires row { row < rows }
+    ensures rows { (g : Plane) → g.rows ≡ rows → g.cols ≡ cols → IsPadded (cell g) rule.now rows cols values.now →
+        RowsAre (new_cell g rule.now) rule.now cols next.old row →
+        RowsAre (new_cell g rule.now) rule.now cols next.new (row + 1) }
+    ensures values { All IsValue next.new }
+{
+    let reach = rule.weights.reach();
+    let width = cols + 2 * reach;
+    let above = start_of(row, width);
+    let start = start_of(reach + row, width);
+    let window = &values[above..above + start_of(2 * reach + 1, width)];
+    let place = &mut next[start..start + width as usize];
+    next_row(window, rule, weights, divisor, cols, place);
+}
+
 /// Computes the rows of the next grid, with their ends.
 fn next_rows(
     values: &[i64],
@@ -127,21 +163,43 @@ fn next_rows(
         RowsAre (new_cell g rule.now) rule.now cols next.new rows }
     ensures values { All IsValue next.new }
 {
-    let reach = rule.weights.reach();
-    let width = cols + 2 * reach;
     for row in 0..rows {
-        let above = start_of(row, width);
-        let start = start_of(reach + row, width);
-        let window = &values[above..above + start_of(2 * reach + 1, width)];
-        next_row(
-            window,
-            rule,
-            weights,
-            divisor,
-            cols,
-            &mut next[start..start + width as usize],
-        );
+        put_next_row(values, rule, weights, divisor, rows, cols, row, next);
     }
+}
+
+/// The same, and the greatest change of a cell. It is found in each row right after the row is computed.
+fn next_rows_changed(
+    values: &[i64],
+    rule: &Rule,
+    weights: &LaneWeights,
+    divisor: &Divisor,
+    rows: u32,
+    cols: u32,
+    next: &mut [i64],
+) -> i64
+    requires rows { IsSide rows }
+    requires cols { IsSide cols }
+    requires length { length values.now ≡ with_ends rule.now rows * with_ends rule.now cols }
+    requires same_length { length next.old ≡ length values.now }
+    requires values { All IsValue values.now }
+    requires next_values { All IsValue next.old }
+    requires weights { weights.now ≡ rule.now.weights }
+    requires divisor { divisor.now ≡ rule.now.div }
+    ensures rows { (g : Plane) → g.rows ≡ rows → g.cols ≡ cols → IsPadded (cell g) rule.now rows cols values.now →
+        RowsAre (new_cell g rule.now) rule.now cols next.new rows }
+    ensures change { (g : Plane) → g.rows ≡ rows → g.cols ≡ cols →
+        IsPadded (cell g) rule.now rows cols values.now → result ≡ pos (change g (next_plane g rule.now)) }
+    ensures range { IsChange result }
+    ensures values { All IsValue next.new }
+{
+    let reach = rule.weights.reach();
+    let mut most = 0;
+    for row in 0..rows {
+        put_next_row(values, rule, weights, divisor, rows, cols, row, next);
+        most = most.max(row_change(values, next, rows, cols, reach, row));
+    }
+    most
 }
 
 /// So many zeros.
@@ -193,6 +251,36 @@ pub(crate) fn next_padded(
 {
     next_rows(values, rule, weights, divisor, rows, cols, next);
     set_all_end_rows(rule, rows, cols, next);
+}
+
+/// Computes the next grid, with more rows and columns on each side, and the greatest change of a cell.
+pub(crate) fn next_padded_changed(
+    values: &[i64],
+    rule: &Rule,
+    weights: &LaneWeights,
+    divisor: &Divisor,
+    rows: u32,
+    cols: u32,
+    next: &mut [i64],
+) -> i64
+    requires rows { IsSide rows }
+    requires cols { IsSide cols }
+    requires length { length values.now ≡ with_ends rule.now rows * with_ends rule.now cols }
+    requires same_length { length next.old ≡ length values.now }
+    requires values { All IsValue values.now }
+    requires next_values { All IsValue next.old }
+    requires weights { weights.now ≡ rule.now.weights }
+    requires divisor { divisor.now ≡ rule.now.div }
+    ensures padded { (g : Plane) → g.rows ≡ rows → g.cols ≡ cols → IsPadded (cell g) rule.now rows cols values.now →
+        IsPadded (new_cell g rule.now) rule.now rows cols next.new }
+    ensures change { (g : Plane) → g.rows ≡ rows → g.cols ≡ cols →
+        IsPadded (cell g) rule.now rows cols values.now → result ≡ pos (change g (next_plane g rule.now)) }
+    ensures range { IsChange result }
+    ensures values { All IsValue next.new }
+{
+    let most = next_rows_changed(values, rule, weights, divisor, rows, cols, next);
+    set_all_end_rows(rule, rows, cols, next);
+    most
 }
 
 /// Puts these values into a row of the grid.

@@ -1,12 +1,11 @@
-use Rattle.std.proofs.Common.{◌≡◌, ◌∙◌, ◌+◌, ◌*◌, ◌<◌, ◌++◌, sym, ap, subst, length, take, drop, arith}
-use Rattle.std.proofs.Math.Seq.{take-append_seam}
+use Rattle.std.proofs.Common.{◌≡◌, ◌∙◌, ◌+◌, ◌*◌, ◌<◌, sym, ap, subst, length, arith}
 use Rattle.std.specs.List.{All}
 use Rattle.stencil_def.specs.Limits.{IsValue}
 use Rattle.stencil_def.specs.Plane.{cell}
 use Rattle.cell_lanes.specs.Padding.{IsPadded}
 use Rattle.stencil_def.specs.Step.{fold_plane}
 use Rattle.stencil_def.proofs.FoldFacts.{fold-rows, fold-cols, fold-length}
-use Rattle.cell_lanes.proofs.FoldFacts.{padded-step, padded-first, length-first, if-ok}
+use Rattle.cell_lanes.proofs.FoldFacts.{padded-step, padded-first, length-first, lent-whole, if-ok}
 use Rattle.cell_lanes.proofs.run.run_lanes.Goals as goal
 
 pub loop-step-init : goal.loop-step-init
@@ -38,10 +37,7 @@ loop-step-preserved c =
     let some-cols : 0 < cols = let h = p.cols.0 in omega (arith, h, f) in
     let y : c.swap.new.y.items ≡ c.loop-step.last.items = ap (λ v. v.items) c.swap.ensures.y_after in
     let same : length c.next_padded.new.next ≡ length c.loop-step.next.items = c.next_padded.auto.next ∙ ap length c.deref_mut.ensures.value in
-    let x : c.swap.new.x.items ≡ c.next_padded.new.next =
-    ap (λ v. v.items) c.swap.ensures.x_after
-    ∙ (ap (λ k. take k (c.next_padded.new.next ++ drop (length c.next_padded.new.next) c.loop-step.next.items)) (c.loop-step.next.ok.0 ∙ sym same)
-    ∙ take-append_seam c.next_padded.new.next (drop (length c.next_padded.new.next) c.loop-step.next.items)) in
+    let x : c.swap.new.x.items ≡ c.next_padded.new.next = ap (λ v. v.items) c.swap.ensures.x_after ∙ lent-whole c.loop-step.next.items c.next_padded.new.next _ c.loop-step.next.ok.0 same in
     let now : IsPadded (cell (fold_plane g rule n)) rule rows cols c.deref.result.now =
     subst (λ xs. IsPadded (cell (fold_plane g rule n)) rule rows cols xs) (sym c.deref.ensures.value) c.loop-step.invariant.padded in
     let next = padded-step g rule n rows cols c.next_padded.new.next e f some-rows some-cols
