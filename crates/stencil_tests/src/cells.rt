@@ -2,7 +2,9 @@
 
 ghost use Rattle.stencil_def.specs.Limits.{IsDiv};
 
-use cell_lanes::{Divisor, LaneWeights, new_cells, run_lanes, window_sums};
+use cell_lanes::{
+    Block, Divisor, LaneWeights, greatest_change, new_cells, run_lanes, run_until, window_sums,
+};
 use std::alloc::Global;
 use std::process::Abort;
 use stencil_def::{Around, Grid, Rule, Weights, run_plain};
@@ -114,4 +116,45 @@ fn each_length_is_as_the_plain_run(rt: HostRuntime) {
             assert_eq!(rt; lanes.values(), plain.values(), "{cols} columns");
         }
     }
+}
+
+/// The cell itself.
+const ITSELF: [i64; 9] = [0, 0, 0, 0, 1, 0, 0, 0, 0];
+
+#[test]
+fn a_run_ends_where_little_changes(rt: HostRuntime) {
+    let alloc = rt.alloc();
+    let rule = rule_of(Weights::new(&ITSELF), 2, Around::Fixed);
+    let mut grid = Grid::zeros(alloc, 2, 1).expect(&rt, "memory");
+    grid.set(0, 0, 8);
+    grid.set(1, 0, -5);
+    // The cells are halved: the changes are 4, 2, 1, 1 and 0.
+    for (steps, until, made, cells) in [
+        (10, 4, 1, [4, -2]),
+        (10, 3, 2, [2, -1]),
+        (10, 1, 3, [1, 0]),
+        (10, 0, 5, [0, 0]),
+        (2, 0, 2, [2, -1]),
+        (7, -1, 7, [0, 0]),
+        (0, 9, 0, [8, -5]),
+    ] {
+        let stopped = run_until(alloc, &grid, &rule, steps, until).expect(&rt, "memory");
+        let cells: &[i64] = &cells;
+        assert_eq!(rt;
+            (stopped.steps, stopped.grid.values()),
+            (made, cells),
+            "{until}"
+        );
+    }
+}
+
+#[test]
+fn a_block_tells_its_greatest_change(rt: HostRuntime) {
+    let mut block = Block::zeros(rt.alloc(), 2, 1, 1).expect(&rt, "memory");
+    block.put(1, 1, &[8]);
+    block.put(2, 1, &[-5]);
+    let weights = LaneWeights::new(Weights::new(&ITSELF));
+    let most = block.step_changed(&weights, &Divisor::new(2));
+    let apart = greatest_change(&[8, -5, 7], &[4, -12, 14]);
+    assert_eq!(rt; (most, apart), (4, 7));
 }
