@@ -4,16 +4,21 @@ use Rattle.std.specs.Prelude.{IfSome, String, bytes_eq, codes, drop, is_some, st
 use Rattle.std.specs.declared.alloc.Global.{Global}
 use Rattle.std.specs.List.{slice_split}
 use Rattle.std.proofs.lemmas.Bool.Decides.{nat_tests}
-use Rattle.stencil_def.specs.Limits.{IsValue}
+use Rattle.part_geometry.specs.declared.TheConstants.{MAX_DEPTH, MAX_GRAIN, MAX_PARTS, MAX_RANKS}
+use Rattle.halo_plan.specs.Plan.{shares_few}
+use Rattle.stencil_def.specs.Limits.{IsValue, IsWithin}
+use Rattle.stencil_def.specs.declared.limits.TheConstants.{MAX_DIV}
 use Rattle.stencil_def.specs.declared.rule.Around.TheVariants as around
 use Rattle.text_words.specs.Numbers.{unsigned_of}
 use Rattle.grid_text.specs.Numbers.{signed_of, within}
 use Rattle.grid_text.specs.declared.number.NumberFault.TheVariants as fault
+use Rattle.stencil_words.specs.declared.words.TheConstants.{MAX_STEPS}
+use Rattle.stencil_words.specs.declared.words.PlanWords.{PlanWords}
 use Rattle.stencil_words.specs.declared.words.Size.{Size}
 use Rattle.stencil_words.specs.declared.words.Source.{Source}
-use Rattle.stencil_words.specs.Limits.{IsRead, IsSize, IsSource}
-use Rattle.stencil_words.specs.Options.{◌>>=◌, Pair, Text, are_sound, options_of, texts, value, when}
-use Rattle.stencil_words.specs.Words.{Values, around_of, grid_source, is_between, made_source, number_in, one_source, or_default, reading_of, reading_of_options, reading_of_values, signed_in, size_in, size_of, size_of_parts, source_of, stencil_reading, value_of_result, with_source}
+use Rattle.stencil_words.specs.Limits.{IsPlanRead, IsRead, IsSize, IsSource}
+use Rattle.stencil_words.specs.Options.{◌>>=◌, Pair, Text, Values, are_apart, are_sound, options_of, texts, value, when}
+use Rattle.stencil_words.specs.Words.{around_of, grid_source, is_between, made_source, number_given, number_in, one_source, or_default, plan_words, reading_of, reading_of_options, reading_of_values, signed_in, size_in, size_of, size_of_parts, source_of, stencil_reading, value_of_result, with_source}
 
 -- words of another command, of no options, and of options
 pub no-words : (words : List (String Global)) → length words ≡ 0 → None ≡ stencil_reading (texts words)
@@ -157,31 +162,62 @@ grid-limits grid None = tt
 grid-limits grid (Some weights) = tt
 
 one-limits : (grid make weights : Option Text) → IfSome (one_source grid make weights) IsSource
-one-limits (Some grid) None weights = grid-limits grid weights
+one-limits (Some grid) make weights = grid-limits grid weights
 one-limits None (Some make) weights = made-limits make weights
 one-limits None None weights = tt
-one-limits (Some grid) (Some make) weights = tt
+
+plan-limits : (given : Values) → IfSome (plan_words given) IsPlanRead
+unfolding plan_words
+plan-limits given =
+    bind-some (number_given given (codes "ranks") 1 MAX_RANKS 1) _ IsPlanRead (λ ranks er.
+    bind-some (number_given given (codes "send-parts") 1 MAX_PARTS 1) _ IsPlanRead (λ send es.
+    bind-some (number_given given (codes "recv-parts") 1 MAX_PARTS 1) _ IsPlanRead (λ recv ev.
+    bind-some (number_given given (codes "grain") 1 MAX_GRAIN 1) _ IsPlanRead (λ grain eg.
+    bind-some (number_given given (codes "depth") 1 MAX_DEPTH 1) _ IsPlanRead (λ depth ed.
+    few ranks send recv grain depth
+    (default-range 1 MAX_RANKS 1 ranks (given (codes "ranks")) (omega arith) (omega arith) er)
+    (default-range 1 MAX_PARTS 1 send (given (codes "send-parts")) (omega arith) (omega arith) es)
+    (default-range 1 MAX_PARTS 1 recv (given (codes "recv-parts")) (omega arith) (omega arith) ev)
+    (default-range 1 MAX_GRAIN 1 grain (given (codes "grain")) (omega arith) (omega arith) eg)
+    (default-range 1 MAX_DEPTH 1 depth (given (codes "depth")) (omega arith) (omega arith) ed)
+    (shares_few send recv) refl)))))
+  where
+    few : (ranks send recv grain depth : ℕ) → IsWithin 1 MAX_RANKS ranks → IsWithin 1 MAX_PARTS send → IsWithin 1 MAX_PARTS recv → IsWithin 1 MAX_GRAIN grain
+        → IsWithin 1 MAX_DEPTH depth → (b : Bool) → shares_few send recv ≡ b
+        → IfSome (when {A = PlanWords} b record { ranks = ranks; send_parts = send; recv_parts = recv; grain = grain; depth = depth }) IsPlanRead
+    few ranks send recv grain depth hr hs hv hg hd true t = record {
+      ranks_limits = hr;
+      send_parts_limits = hs;
+      recv_parts_limits = hv;
+      multiple_limit = t;
+      grain_limits = hg;
+      depth_limits = hd;
+    }
+    few ranks send recv grain depth hr hs hv hg hd false t = tt
 
 with-limits : (given : Values) (source : Source) → IsSource source → IfSome (with_source given source) IsRead
 unfolding with_source
 with-limits given source h =
-    bind-some (or_default (number_in 0 10000) 1 (given (codes "steps"))) _ IsRead (λ steps es.
-    bind-some (or_default (number_in 1 1000000) 1 (given (codes "div"))) _ IsRead (λ div ed.
+    bind-some (number_given given (codes "steps") 0 MAX_STEPS 1) _ IsRead (λ steps es.
+    bind-some (plan_words given) _ IsRead (λ plan ep.
+    bind-some (number_given given (codes "div") 1 MAX_DIV 1) _ IsRead (λ div ed.
     bind-some (or_default (signed_in 1000000000000) (pos 0) (given (codes "edge"))) _ IsRead (λ edge ee.
     bind-some (or_default around_of around.Fixed (given (codes "around"))) _ IsRead (λ side ea.
     record {
       source_limits = h;
-      steps_limit = (default-range 0 10000 1 steps (given (codes "steps")) (omega arith) (omega arith) es).1;
-      div_limits = default-range 1 1000000 1 div (given (codes "div")) (omega arith) (omega arith) ed;
+      steps_limit = (default-range 0 MAX_STEPS 1 steps (given (codes "steps")) (omega arith) (omega arith) es).1;
+      plan_limits = at-some (plan_words given) IsPlanRead plan (plan-limits given) ep;
+      div_limits = default-range 1 MAX_DIV 1 div (given (codes "div")) (omega arith) (omega arith) ed;
       edge_limits = edge-limit edge (given (codes "edge")) ee;
-    }))))
+    })))))
 
 -- the limits of a reading
 pub values-limits : (given : Values) → IfSome (reading_of_values given) IsRead
 unfolding reading_of_values source_of
 values-limits given =
-    bind-some (source_of given) _ IsRead (λ source e.
-    with-limits given source (at-some (source_of given) IsSource source (one-limits (given (codes "grid")) (given (codes "make")) (given (codes "weights"))) e))
+    bind-some (when (are_apart given) given) _ IsRead (λ apart w.
+    bind-some (source_of apart) _ IsRead (λ source e.
+    with-limits apart source (at-some (source_of apart) IsSource source (one-limits (apart (codes "grid")) (apart (codes "make")) (apart (codes "weights"))) e)))
 
 -- what is the opposite of true is false
 pub is-false : (b : Bool) → true ≡ not b → b ≡ false

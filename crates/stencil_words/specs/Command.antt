@@ -1,7 +1,6 @@
--- The command as `clap` reads it: seven options, each with its name in full and one value. For private functions.
+-- The command as `clap` reads it: its options, each with its name in full and one value. For private functions.
 use Rattle.std.specs.Prelude.{◌≡◌, true, false, List, map, codes, Option, Some, None}
-use Rattle.stencil_words.specs.Options.{Pair, Text, are_sound, names, value}
-use Rattle.stencil_words.specs.Words.{Values}
+use Rattle.stencil_words.specs.Options.{Pair, Text, Values, are_sound, names, value}
 use Rattle.clap.specs.Words.{App, Rule, first_value, found_of, new_app, new_rule}
 use Rattle.clap.specs.Simple.{on_top}
 use Rattle.clap.specs.declared.parser.matches.ArgMatches.{ArgMatches}

@@ -1,8 +1,11 @@
 -- The limits that what was read keeps.
-use Rattle.std.specs.Prelude.{◌*◌, ◌<◌, ◌≤◌, ◌^◌, ⊤}
+use Rattle.std.specs.Prelude.{◌*◌, ◌<◌, ◌≤◌, ◌^◌, IsTrue, ⊤}
+use Rattle.part_geometry.specs.declared.TheConstants.{MAX_DEPTH, MAX_GRAIN, MAX_PARTS, MAX_RANKS}
 use Rattle.stencil_def.specs.Limits.{IsSide, IsValue, IsWithin}
 use Rattle.stencil_def.specs.declared.limits.TheConstants.{MAX_CELLS, MAX_DIV}
+use Rattle.halo_plan.specs.Plan.{shares_few}
 use Rattle.stencil_words.specs.declared.words.TheConstants.{MAX_STEPS}
+use Rattle.stencil_words.specs.declared.words.PlanWords.{PlanWords}
 use Rattle.stencil_words.specs.declared.words.Size.{Size}
 use Rattle.stencil_words.specs.declared.words.Source.{Source}
 use Rattle.stencil_words.specs.declared.words.Source.TheVariants.{Grid, Make}
@@ -19,9 +22,19 @@ abbrev pub IsSource : Source → Type 0
 IsSource (Grid grid weights) = ⊤
 IsSource (Make size weights) = IsSize size
 
+-- the limits of the plan
+pub record IsPlanRead (p : PlanWords) : Type 0 where
+  pub ranks_limits : IsWithin 1 MAX_RANKS p.ranks
+  pub send_parts_limits : IsWithin 1 MAX_PARTS p.send_parts
+  pub recv_parts_limits : IsWithin 1 MAX_PARTS p.recv_parts
+  pub multiple_limit : IsTrue (shares_few p.send_parts p.recv_parts)
+  pub grain_limits : IsWithin 1 MAX_GRAIN p.grain
+  pub depth_limits : IsWithin 1 MAX_DEPTH p.depth
+
 -- the limits of all that the words say
 pub record IsRead (w : StencilWords) : Type 0 where
   pub source_limits : IsSource w.source
   pub steps_limit : w.steps ≤ MAX_STEPS
+  pub plan_limits : IsPlanRead w.plan
   pub div_limits : IsWithin 1 MAX_DIV w.div
   pub edge_limits : IsValue w.edge

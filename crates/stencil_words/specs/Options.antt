@@ -1,9 +1,9 @@
 -- The options in the words of a command line.
 use Rattle.std.specs.Prelude.{ℕ, ◌==◌, Bool, true, false, ◌&&◌, not, nat_lt, bytes_eq, codes, if◌then◌else◌, List, []}
-use Rattle.std.specs.Prelude.{◌∷◌, length, map, find, Option, Some, None, option_map, option_and_then, String}
+use Rattle.std.specs.Prelude.{◌∷◌, length, map, find, Option, Some, None, is_some, option_map, option_and_then, String}
 use Rattle.std.specs.Prelude.{string_bytes}
 use Rattle.std.specs.declared.alloc.Global.{Global}
-use Rattle.std.specs.List.{after_first, before_first, list_any, position_or_len}
+use Rattle.std.specs.List.{after_first, before_first, list_all, list_any, position_or_len}
 
 -- the second step, where the first gives a value
 infixl 10 ◌>>=◌
@@ -89,7 +89,12 @@ texts words = map string_bytes words
 -- the names of options
 abbrev pub names : List Text
 names =
-    codes "grid" ∷ codes "make" ∷ codes "weights" ∷ codes "steps" ∷ codes "div" ∷ codes "edge" ∷ codes "around" ∷ []
+    codes "grid" ∷ codes "make" ∷ codes "weights" ∷ codes "steps" ∷ codes "ranks" ∷ codes "send-parts" ∷
+    codes "recv-parts" ∷ codes "grain" ∷ codes "depth" ∷ codes "div" ∷ codes "edge" ∷ codes "around" ∷ []
+
+-- the names of two options that aren't given together
+abbrev pub exclusions : List (Text × Text)
+exclusions = (codes "grid", codes "make") ∷ []
 
 abbrev pub is_name : Text → Bool
 is_name name = list_any (λ known. bytes_eq known name) names
@@ -106,3 +111,11 @@ are_sound (p ∷ rest) = is_name p.0 && not (has p.0 rest) && are_sound rest
 -- the value of the option of a name, where it is given
 abbrev pub value : List Pair → Text → Option Text
 value options name = option_map (λ p. p.1) (find (λ p. bytes_eq p.0 name) options)
+
+-- the values of options by their names
+abbrev pub Values : Type 0
+Values = Text → Option Text
+
+-- no two options are given that exclude each other
+abbrev pub are_apart : Values → Bool
+are_apart given = list_all (λ two. not (is_some (given two.0) && is_some (given two.1))) exclusions

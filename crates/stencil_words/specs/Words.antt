@@ -2,14 +2,17 @@
 use Rattle.std.specs.Prelude.{ℕ, ◌*◌, ◌==◌, Bool, ◌&&◌, nat_le, bytes_eq, codes, if◌then◌else◌, ℤ, pos, unsigned_abs}
 use Rattle.std.specs.Prelude.{List, [], ◌∷◌, Option, Some, None, Result, Ok, Err}
 use Rattle.std.specs.List.{slice_split}
+use Rattle.part_geometry.specs.declared.TheConstants.{MAX_DEPTH, MAX_GRAIN, MAX_PARTS, MAX_RANKS}
 use Rattle.stencil_def.specs.declared.limits.TheConstants.{MAX_CELLS, MAX_DIV, MAX_SIDE, MAX_VALUE}
 use Rattle.stencil_def.specs.declared.rule.Around.{Around}
 use Rattle.stencil_def.specs.declared.rule.Around.TheVariants as around
+use Rattle.halo_plan.specs.Plan.{shares_few}
 use Rattle.text_words.specs.Numbers.{unsigned_of}
 use Rattle.grid_text.specs.Numbers.{signed_of, within}
 use Rattle.grid_text.specs.declared.number.NumberFault.{NumberFault}
-use Rattle.stencil_words.specs.Options.{◌>>=◌, Pair, Text, are_sound, options_of, value, when}
+use Rattle.stencil_words.specs.Options.{◌>>=◌, Pair, Text, Values, are_apart, are_sound, options_of, value, when}
 use Rattle.stencil_words.specs.declared.words.TheConstants.{MAX_STEPS}
+use Rattle.stencil_words.specs.declared.words.PlanWords.{PlanWords}
 use Rattle.stencil_words.specs.declared.words.Size.{Size}
 use Rattle.stencil_words.specs.declared.words.Source.{Source}
 use Rattle.stencil_words.specs.declared.words.Source.TheVariants.{Grid, Make}
@@ -73,34 +76,47 @@ made_source make weights = do
   size ← size_of make
   Some (Make size weights)
 
--- exactly one of both
+-- one of both
 abbrev pub one_source : Option Text → Option Text → Option Text → Option Source
-one_source (Some grid) None weights = grid_source grid weights
+one_source (Some grid) make weights = grid_source grid weights
 one_source None (Some make) weights = made_source make weights
-one_source _ _ _ = None
-
--- the values of options by their names
-abbrev pub Values : Type 0
-Values = Text → Option Text
+one_source None None weights = None
 
 -- where the grid comes from
 unfoldable pub source_of : Values → Option Source
 source_of given = one_source (given (codes "grid")) (given (codes "make")) (given (codes "weights"))
 
--- what the options say beside that
+-- the number that an option gives, from low to high, and the default where it isn't given
+abbrev pub number_given : Values → Text → ℕ → ℕ → ℕ → Option ℕ
+number_given given name low high default = or_default (number_in low high) default (given name)
+
+-- the plan that the options ask for: the least common multiple of both numbers of partitions is at most 8,192
+unfoldable pub plan_words : Values → Option PlanWords
+plan_words given = do
+  ranks ← number_given given (codes "ranks") 1 MAX_RANKS 1
+  send_parts ← number_given given (codes "send-parts") 1 MAX_PARTS 1
+  recv_parts ← number_given given (codes "recv-parts") 1 MAX_PARTS 1
+  grain ← number_given given (codes "grain") 1 MAX_GRAIN 1
+  depth ← number_given given (codes "depth") 1 MAX_DEPTH 1
+  when (shares_few send_parts recv_parts)
+      record { ranks = ranks; send_parts = send_parts; recv_parts = recv_parts; grain = grain; depth = depth }
+
+-- what the options say beside where the grid comes from
 unfoldable pub with_source : Values → Source → Option StencilWords
 with_source given source = do
-  steps ← or_default (number_in 0 MAX_STEPS) 1 (given (codes "steps"))
-  div ← or_default (number_in 1 MAX_DIV) 1 (given (codes "div"))
+  steps ← number_given given (codes "steps") 0 MAX_STEPS 1
+  plan ← plan_words given
+  div ← number_given given (codes "div") 1 MAX_DIV 1
   edge ← or_default (signed_in (unsigned_abs MAX_VALUE)) (pos 0) (given (codes "edge"))
   around ← or_default around_of around.Fixed (given (codes "around"))
-  Some record { source = source; steps = steps; div = div; edge = edge; around = around }
+  Some record { source = source; steps = steps; plan = plan; div = div; edge = edge; around = around }
 
 -- the reading of values
 unfoldable pub reading_of_values : Values → Option StencilWords
 reading_of_values given = do
-  source ← source_of given
-  with_source given source
+  apart ← when (are_apart given) given
+  source ← source_of apart
+  with_source apart source
 
 -- the reading of options, where each has a known name and no two have one
 unfoldable pub reading_of_options : List Pair → Option StencilWords

@@ -1,18 +1,21 @@
 //! The reading of the words.
 
-ghost use Rattle.std.specs.Prelude.{◌≡◌, ◌==◌, ◌≤◌, IfOk, IfSome, codes, map, option_copied, pos, unsigned_abs};
+ghost use Rattle.std.specs.Prelude.{◌≡◌, ◌==◌, ◌≤◌, ◌&&◌, IfOk, IfSome, codes, is_some, map, option_copied, pos};
+ghost use Rattle.std.specs.Prelude.{unsigned_abs};
 ghost use Rattle.std.specs.List.{slice_split};
 ghost use Rattle.stencil_words.specs.Limits.{IsRead};
 ghost use Rattle.stencil_words.specs.Command.{given_in};
-ghost use Rattle.stencil_words.specs.Options.{texts};
-ghost use Rattle.stencil_words.specs.Words.{around_of, grid_source, made_source, number_in, or_default};
-ghost use Rattle.stencil_words.specs.Words.{reading_of_values, signed_in, size_in, size_of, source_of, stencil_reading};
-ghost use Rattle.stencil_words.specs.Words.{with_source};
+ghost use Rattle.stencil_words.specs.Options.{are_apart, texts};
+ghost use Rattle.stencil_words.specs.Words.{around_of, grid_source, made_source, number_given, number_in, or_default};
+ghost use Rattle.stencil_words.specs.Words.{plan_words, reading_of_values, signed_in, size_in, size_of, source_of};
+ghost use Rattle.stencil_words.specs.Words.{stencil_reading, with_source};
 
 use crate::command::matches;
 use crate::options::are_options;
-use crate::{FileName, MAX_STEPS, Size, Source, StencilWords};
+use crate::{FileName, MAX_STEPS, PlanWords, Size, Source, StencilWords};
 use clap::ArgMatches;
+use halo_plan::shares_few;
+use part_geometry::{MAX_DEPTH, MAX_GRAIN, MAX_PARTS, MAX_RANKS};
 use std::alloc::{AllocError, Global};
 use stencil_def::{Around, MAX_CELLS, MAX_DIV, MAX_SIDE, MAX_VALUE};
 use text_words::unsigned;
@@ -32,7 +35,9 @@ fn number_in(low: u32, high: u32, text: &[u8]) -> Option<u32>
 
 /// The number that the option of this name gives, and the default where there is none.
 fn number_or(matches: &ArgMatches<'_>, name: &str, low: u32, high: u32, default: u32) -> Option<u32>
-    ensures { result ≡ or_default (number_in low high) default (given_in matches.now name.now) }
+    requires { (low ≤ default) × (default ≤ high) }
+    ensures value { result ≡ number_given (given_in matches.now) name.now low high default }
+    ensures range { IfSome result (λ n. (low ≤ n) × (n ≤ high)) }
 {
     match matches.get_str(name) {
         Some(text) => number_in(low, high, text.as_bytes()),
@@ -141,17 +146,53 @@ fn made(alloc: Global, make: &str, weights: Option<&str>) -> Result<Option<Sourc
     Ok(Some(Source::Make { size, weights }))
 }
 
-/// Where the grid comes from: exactly one of `--grid` and `--make` is given.
+/// Whether two options are given.
+fn are_given(matches: &ArgMatches<'_>, one: &str, other: &str) -> bool
+    ensures { result ≡ (is_some (given_in matches.now one.now) && is_some (given_in matches.now other.now)) }
+{
+    matches.get_str(one).is_some() && matches.get_str(other).is_some()
+}
+
+/// Whether no two options are given that exclude each other.
+fn are_apart(matches: &ArgMatches<'_>) -> bool
+    ensures { result ≡ are_apart (given_in matches.now) }
+{
+    !are_given(matches, "grid", "make")
+}
+
+/// Where the grid comes from: `--grid` or `--make`.
 #[tactic(auto, unfolding(crate::specs::Words::source_of))]
 fn source(alloc: Global, matches: &ArgMatches<'_>) -> Result<Option<Source>, AllocError>
     ensures { IfOk result (λ source. source ≡ source_of (given_in matches.now)) }
 {
     let weights = matches.get_str("weights");
     match (matches.get_str("grid"), matches.get_str("make")) {
-        (Some(grid), None) => files(alloc, grid, weights),
+        (Some(grid), _) => files(alloc, grid, weights),
         (None, Some(make)) => made(alloc, make, weights),
-        _ => Ok(None),
+        (None, None) => Ok(None),
     }
+}
+
+/// The plan that the options ask for.
+#[tactic(auto, unfolding(crate::specs::Words::plan_words))]
+fn plan_words(matches: &ArgMatches<'_>) -> Option<PlanWords>
+    ensures { result ≡ plan_words (given_in matches.now) }
+{
+    let ranks = number_or(matches, "ranks", 1, MAX_RANKS, 1)?;
+    let send_parts = number_or(matches, "send-parts", 1, MAX_PARTS, 1)?;
+    let recv_parts = number_or(matches, "recv-parts", 1, MAX_PARTS, 1)?;
+    let grain = number_or(matches, "grain", 1, MAX_GRAIN, 1)?;
+    let depth = number_or(matches, "depth", 1, MAX_DEPTH, 1)?;
+    if !shares_few(send_parts, recv_parts) {
+        return None;
+    }
+    Some(PlanWords {
+        ranks,
+        send_parts,
+        recv_parts,
+        grain,
+        depth,
+    })
 }
 
 /// What the options say beside where the grid comes from.
@@ -160,12 +201,14 @@ fn with_source(matches: &ArgMatches<'_>, source: Source) -> Option<StencilWords>
     ensures { result ≡ with_source (given_in matches.now) source }
 {
     let steps = number_or(matches, "steps", 0, MAX_STEPS, 1)?;
+    let plan = plan_words(matches)?;
     let div = number_or(matches, "div", 1, MAX_DIV, 1)?;
     let edge = edge_of(matches)?;
     let around = around_or(matches)?;
     Some(StencilWords {
         source,
         steps,
+        plan,
         div,
         edge,
         around,
@@ -177,6 +220,9 @@ fn with_source(matches: &ArgMatches<'_>, source: Source) -> Option<StencilWords>
 fn read_matches(alloc: Global, matches: &ArgMatches<'_>) -> Result<Option<StencilWords>, AllocError>
     ensures { IfOk result (λ reading. reading ≡ reading_of_values (given_in matches.now)) }
 {
+    if !are_apart(matches) {
+        return Ok(None);
+    }
     let Some(source) = source(alloc, matches)? else {
         return Ok(None);
     };
@@ -193,6 +239,9 @@ fn read_matches(alloc: Global, matches: &ArgMatches<'_>) -> Result<Option<Stenci
 /// `grid` and `weights` name files. `make` is SEED,ROWS,COLS, with no spaces. Exactly one of `grid` and `make` is
 /// given, and `weights` with `grid`. `steps` is 0 to 10,000, and without it 1; `div` is 1 to 1,000,000, and without it
 /// 1; `edge` is -10^12 to 10^12, and without it 0; `around` is `fixed` or `wrap`, and without it `fixed`.
+///
+/// `ranks` is 1 to 64, `send-parts` and `recv-parts` are 1 to 1,024 each with a least common multiple of at most 8,192,
+/// `grain` is 1 to 16,777,216 and `depth` 1 to 4; each is 1 where it isn't given.
 pub fn read_words(alloc: Global, words: &[String]) -> Result<Option<StencilWords>, AllocError>
     ensures reading { IfOk result (λ reading. reading ≡ stencil_reading (texts words.now)) }
     ensures limits { IfOk result (λ reading. IfSome reading IsRead) }

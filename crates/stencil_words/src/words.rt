@@ -36,6 +36,22 @@ pub enum Source {
     },
 }
 
+/// How ranks share the rows of the grid, and how the messages between them are cut.
+#[derive(Clone, Copy)]
+pub struct PlanWords {
+    /// How many ranks there are, from 1 to 64.
+    pub ranks: u32,
+    /// How many partitions a message has at its sender, from 1 to 1,024.
+    pub send_parts: u32,
+    /// How many partitions a message has at its receiver, from 1 to 1,024; the least common multiple of both numbers
+    /// of partitions is at most 8,192.
+    pub recv_parts: u32,
+    /// How many bytes a piece of a message has at least, from 1 to 16,777,216.
+    pub grain: u32,
+    /// How many rounds may be in flight, from 1 to 4.
+    pub depth: u32,
+}
+
 /// What the words of `stencil` ask for.
 #[derive(Drop)]
 pub struct StencilWords {
@@ -43,6 +59,8 @@ pub struct StencilWords {
     pub source: Source,
     /// How many steps there are, from 0 to 10,000.
     pub steps: u32,
+    /// How ranks share the grid.
+    pub plan: PlanWords,
     /// What a weighted sum is divided by, from 1 to 1,000,000.
     pub div: u32,
     /// The value outside the grid, from -10^12 to 10^12.
