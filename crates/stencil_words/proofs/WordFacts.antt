@@ -5,7 +5,7 @@ use Rattle.std.specs.declared.alloc.Global.{Global}
 use Rattle.std.specs.List.{slice_split}
 use Rattle.std.proofs.lemmas.Bool.Decides.{nat_tests}
 use Rattle.part_geometry.specs.declared.TheConstants.{MAX_DEPTH, MAX_GRAIN, MAX_PARTS, MAX_RANKS}
-use Rattle.halo_plan.specs.Plan.{shares_few}
+use Rattle.halo_message.specs.Message.{shares_few}
 use Rattle.stencil_def.specs.Limits.{IsValue, IsWithin}
 use Rattle.stencil_def.specs.declared.limits.TheConstants.{MAX_DIV}
 use Rattle.stencil_def.specs.declared.rule.Around.TheVariants as around

@@ -3,7 +3,7 @@ use Rattle.std.specs.Prelude.{◌*◌, ◌<◌, ◌≤◌, ◌^◌, IsTrue, ⊤}
 use Rattle.part_geometry.specs.declared.TheConstants.{MAX_DEPTH, MAX_GRAIN, MAX_PARTS, MAX_RANKS}
 use Rattle.stencil_def.specs.Limits.{IsSide, IsValue, IsWithin}
 use Rattle.stencil_def.specs.declared.limits.TheConstants.{MAX_CELLS, MAX_DIV}
-use Rattle.halo_plan.specs.Plan.{shares_few}
+use Rattle.halo_message.specs.Message.{shares_few}
 use Rattle.stencil_words.specs.declared.words.TheConstants.{MAX_STEPS}
 use Rattle.stencil_words.specs.declared.words.PlanWords.{PlanWords}
 use Rattle.stencil_words.specs.declared.words.Size.{Size}

@@ -6,7 +6,7 @@ use Rattle.part_geometry.specs.declared.TheConstants.{MAX_DEPTH, MAX_GRAIN, MAX_
 use Rattle.stencil_def.specs.declared.limits.TheConstants.{MAX_CELLS, MAX_DIV, MAX_SIDE, MAX_VALUE}
 use Rattle.stencil_def.specs.declared.rule.Around.{Around}
 use Rattle.stencil_def.specs.declared.rule.Around.TheVariants as around
-use Rattle.halo_plan.specs.Plan.{shares_few}
+use Rattle.halo_message.specs.Message.{shares_few}
 use Rattle.text_words.specs.Numbers.{unsigned_of}
 use Rattle.grid_text.specs.Numbers.{signed_of, within}
 use Rattle.grid_text.specs.declared.number.NumberFault.{NumberFault}

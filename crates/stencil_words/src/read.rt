@@ -14,7 +14,7 @@ use crate::command::matches;
 use crate::options::are_options;
 use crate::{FileName, MAX_STEPS, PlanWords, Size, Source, StencilWords};
 use clap::ArgMatches;
-use halo_plan::shares_few;
+use halo_message::shares_few;
 use part_geometry::{MAX_DEPTH, MAX_GRAIN, MAX_PARTS, MAX_RANKS};
 use std::alloc::{AllocError, Global};
 use stencil_def::{Around, MAX_CELLS, MAX_DIV, MAX_SIDE, MAX_VALUE};
