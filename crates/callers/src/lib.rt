@@ -19,6 +19,7 @@ pub mod part_tables_caller;
 pub mod plain_pair_caller;
 pub mod rank_pool_caller;
 pub mod rank_task_caller;
+pub mod residual_ring_caller;
 pub mod script_pair_caller;
 pub mod script_run_caller;
 pub mod script_text_caller;

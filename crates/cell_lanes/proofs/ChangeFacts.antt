@@ -173,7 +173,7 @@ change-more old new top left cols n most step result p q is row greater =
 -- ---- the padded grid
 
 -- a cell, counted from the first row and column
-from-first : (g : Plane) (row col : ℕ) → cell g row col ≡ cell g (0 + row) (0 + col)
+pub from-first : (g : Plane) (row col : ℕ) → cell g row col ≡ cell g (0 + row) (0 + col)
 from-first g row col =
     let down : row ≡ 0 + row = omega arith in
     let right : col ≡ 0 + col = omega arith in
