@@ -255,8 +255,8 @@ impl Block {
         ensures own { (g : Plane) (rule : Rule) (top left : ℕ) → weights.now ≡ rule.weights → divisor.now ≡ rule.div →
             Holds g rule top left self.old → IsInside g top left self.old →
             HoldsOwn (next_plane g rule) top left self.new }
-        ensures change { (g : Plane) (rule : Rule) (top left : ℕ) → weights.now ≡ rule.weights → divisor.now ≡ rule.div →
-            Holds g rule top left self.old → IsInside g top left self.old →
+        ensures change { (g : Plane) (rule : Rule) (top left : ℕ) → weights.now ≡ rule.weights →
+            divisor.now ≡ rule.div → Holds g rule top left self.old → IsInside g top left self.old →
             result ≡ pos (change_within g (next_plane g rule) top self.old.rows left self.old.cols) }
         ensures range { IsChange result }
         ensures size { SameSize self.old self.new }
