@@ -9,7 +9,7 @@ use Rattle.std.proofs.lemmas.Nat.{mul-mod_second, div-add-mod'}
 use Rattle.part_geometry.specs.Shape.{IsShape, Shape}
 use Rattle.part_geometry.specs.declared.geometry.GeometryFault.{GeometryFault}
 use Rattle.halo_message.specs.Kept.{IsKept}
-use Rattle.halo_message.specs.Message.{IsMessage, Message, cut_as, elements, first_shared, is_shared, shape_of}
+use Rattle.halo_message.specs.Message.{IsMessage, Message, cut_as, elements, first_shared, is_shared}
 use Rattle.halo_message.proofs.Finding.{found, rounded-up, some-found}
 
 -- a multiple of a multiple

@@ -1,6 +1,6 @@
 //! The numbers of a message.
 
-ghost use Rattle.std.specs.Prelude.{◌≡◌, ◌≤◌, ◌+◌, ◌*◌, IfOk, IsTrue, Ok, true};
+ghost use Rattle.std.specs.Prelude.{◌≡◌, ◌<◌, ◌≤◌, ◌+◌, ◌*◌, IfOk, IsTrue, Ok, true};
 ghost use Rattle.part_geometry.specs.declared.TheConstants.{MAX_DEPTH, MAX_GRAIN, MAX_PARTS};
 ghost use Rattle.part_geometry.specs.Shape.{IsShape, IsWithin, send_total};
 ghost use Rattle.halo_message.specs.declared.TheConstants.{ELEMENT_BYTES, MAX_MULTIPLE, MAX_VALUES};
@@ -98,6 +98,7 @@ impl Message {
     pub fn elements(&self) -> u32
         ensures value { result ≡ elements self.now }
         ensures enough { self.now.values ≤ result }
+        ensures few { result < self.now.values + MAX_MULTIPLE }
         ensures limits { IsMessage self.now }
     {
         self.elements

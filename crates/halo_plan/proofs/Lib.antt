@@ -1,3 +1,4 @@
 pub mod Planning
 pub mod EdgeFacts
 pub mod WorldFacts
+pub mod Accepting

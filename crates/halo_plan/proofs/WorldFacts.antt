@@ -33,7 +33,7 @@ key_of e = record { comm = 0; from = e.from; to = e.to; tag = e.tag }
 -- ---- calls of one key
 
 -- no edge of a list has this key
-abbrev Others : Key → List Edge → Type 0
+abbrev pub Others : Key → List Edge → Type 0
 Others key [] = Unit {0}
 Others key (e ∷ es) = (same_key key (key_of e) ≡ false) × Others key es
 
@@ -60,7 +60,7 @@ same-self k = rw (eq-eqb k.comm k.comm refl, eq-eqb k.from k.from refl, eq-eqb k
 -- ---- the pairs
 
 -- an edge's send completes no pair: no receive of its key stands before it
-send-alone : (p : Plan) (before : List Edge) (e : Edge) → Others (key_of e) before → completed_by (flat_map (two_calls p) before) (send_of p e) ≡ None
+pub send-alone : (p : Plan) (before : List Edge) (e : Edge) → Others (key_of e) before → completed_by (flat_map (two_calls p) before) (send_of p e) ≡ None
 unfolding of_key
 send-alone p before e others =
     let none : of_key RecvSide (key_of e) (flat_map (two_calls p) before) ≡ [] =
@@ -73,7 +73,7 @@ abbrev pair_at : Plan → ℕ → Edge → Pair
 pair_at p n e = record { send = (n, send_of p e); recv = (n + 1, recv_of p e) }
 
 -- its receive completes a pair with that send
-recv-pairs : (p : Plan) (before : List Edge) (e : Edge) → Others (key_of e) before
+pub recv-pairs : (p : Plan) (before : List Edge) (e : Edge) → Others (key_of e) before
     → completed_by (flat_map (two_calls p) before ++ send_of p e ∷ []) (recv_of p e) ≡ Some (pair_at p (length (flat_map (two_calls p) before)) e)
 unfolding of_key
 recv-pairs p before e others =
@@ -105,7 +105,7 @@ get-behind [] e ys = refl
 get-behind (x ∷ xs) e ys = get-behind xs e ys
 
 -- where edges with one key are one, those before an edge have other keys
-others-from : (front before : List Edge) (e : Edge) (es : List Edge) → AreApart (front ++ (before ++ e ∷ es)) → Others (key_of e) before
+pub others-from : (front before : List Edge) (e : Edge) (es : List Edge) → AreApart (front ++ (before ++ e ∷ es)) → Others (key_of e) before
 others-from front [] e es apart = tt
 others-from front (f ∷ before) e es apart = (
   elim (cases_Bool (same_key (key_of e) (key_of f))) [
@@ -138,7 +138,7 @@ pairs-behind p before (e ∷ es) apart =
 -- ---- the edges of a plan have keys of their own
 
 -- a number is even or odd
-tag-even : (e : ℕ) → (e ≡ 2 * (e / 2)) ⊎ (e ≡ 2 * (e / 2) + 1)
+pub tag-even : (e : ℕ) → (e ≡ 2 * (e / 2)) ⊎ (e ≡ 2 * (e / 2) + 1)
 tag-even e = elim (cases_lt 0 (e % 2)) [ inl more ↦ inr (omega arith) | inr none ↦ inl (omega arith) ]
 
 -- equal places with equal keys have edges with equal keys

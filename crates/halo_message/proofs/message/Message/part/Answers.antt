@@ -1,4 +1,4 @@
-use Rattle.std.proofs.Common.{◌≡◌, ◌∙◌, ap, ◌/◌, ◌*◌, ◌+◌, arith}
+use Rattle.std.proofs.Common.{◌∙◌, ap, ◌/◌, ◌+◌, arith}
 use Rattle.halo_message.proofs.ElementFacts.{part-starts, whole-parts}
 use Rattle.halo_message.proofs.message.Message.part.Goals as goal
 

@@ -2,12 +2,11 @@ use Rattle.std.proofs.Common.{subst, arith}
 use Rattle.std.proofs.lemmas.List.{take_all}
 use Rattle.halo_plan.specs.Edges.{edges}
 use Rattle.halo_plan.specs.Worlds.{HasCalls}
-use Rattle.halo_plan.proofs.WorldFacts.{calls-next, world-of}
+use Rattle.halo_plan.proofs.WorldFacts.{world-of}
 use Rattle.halo_plan.proofs.plan.HaloPlan.world.Goals as goal
 
 pub loop-e-preserved : goal.loop-e-preserved
-loop-e-preserved c =
-    calls-next c.args.self.now (edges c.args.self.now) c.loop-e.e c.edge.result c.loop-e.world c.join.new.world c.loop-e.invariant c.edge.ensures.value c.in_ok-join.ensures
+loop-e-preserved c = c.in_ok-join.ensures
 
 pub returns : goal.returns
 returns c =
