@@ -50,7 +50,9 @@ fn has_bytes(pair: &Pair<AnyBytes>, end: &mut RecvEnd<AnyBytes>, q: u32, wanted:
     };
     let mut bytes = [0; 1024];
     if arrival.len() == 1024 {
-        arrival.copy_into(&mut bytes);
+        let (front, back) = bytes.split_at_mut(300);
+        arrival.copy_range(0, front);
+        arrival.copy_range(300, back);
     }
     end.give_back(pair, arrival);
     bytes.as_slice() == wanted
