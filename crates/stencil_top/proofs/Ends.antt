@@ -1,16 +1,19 @@
 -- The output of a script, and the outcomes of a command.
 use Rattle.std.proofs.Common.{◌≡◌, ℕ, ◌≤◌, List, length, Option, Some, None, Result, Ok, Err, Vec, IfSome, IsSome, refl, sym, ap, ◌∙◌, subst}
 use Rattle.std.specs.declared.alloc.Global.{Global}
+use Rattle.part_io.specs.Sink.{AddsFront, Writes}
 use Rattle.stencil_words.specs.declared.words.Source.{Source}
 use Rattle.stencil_words.specs.declared.words.Source.TheVariants as source
 use Rattle.stencil_top.specs.Words.{Command, Script, Check, Stencil, source_file, file_of}
-use Rattle.stencil_top.specs.Outcome.{Texts, Outcome, Ends, EndsWith, IsStencilOutput, IsCheckOutput, answered, noted, texts_in, limit_of, read_of, ◌>>=◌, answers_to, list_in, script_output, inputs_in, inputs_of, made_with}
-use Rattle.stencil_top.specs.Run.{Files, AreIn, IsNoted}
+use Rattle.stencil_top.specs.Outcome.{Texts, Outcome, Ends, EndsWith, IsStencilOutput, IsCheckOutput, answered, noted, texts_in, limit_of, read_of, ◌>>=◌, answers_to, list_in, script_output, inputs_in, inputs_of, made_with, planned}
+use Rattle.stencil_top.specs.Run.{Files, AreIn, Explains, IsNoted}
 use Rattle.stencil_top.specs.Steps.{Gives, ReadsFile, RunsScript, Finds}
+use Rattle.stencil_top.specs.declared.status.Status.TheVariants.{Done}
 use Rattle.stencil_top.specs.declared.note.TextName.{TextName}
 use Rattle.stencil_top.specs.declared.note.TextName.TheVariants as text
+use Rattle.stencil_top.specs.declared.reading.Inputs.{Inputs}
 use Rattle.stencil_top.specs.declared.note.Note.{Note}
-use Rattle.stencil_top.specs.declared.note.Note.TheVariants.{Usage, TooLong, BadScript, BadList, BadText, CannotRead, CannotWrite, OutOfMemory}
+use Rattle.stencil_top.specs.declared.note.Note.TheVariants.{Usage, TooLong, BadScript, BadList, BadText, TooManyRanks, CannotRead, CannotWrite, OutOfMemory}
 use Rattle.stencil_top.proofs.Texts.{not_true, texts_of, is_found, read_short, fails, made_comes}
 
 -- the note of a cause, where what was wanted came to that cause
@@ -34,6 +37,7 @@ none_given command files before now wanted IsOutput to (TooLong w) f = is_noted 
 none_given command files before now wanted IsOutput to (BadScript fault) f = is_noted command files before now wanted IsOutput _ to f (BadScript fault) f.comes
 none_given command files before now wanted IsOutput to (BadList fault) f = is_noted command files before now wanted IsOutput _ to f (BadList fault) f.comes
 none_given command files before now wanted IsOutput to (BadText w fault) f = is_noted command files before now wanted IsOutput _ to f (BadText w fault) f.comes
+none_given command files before now wanted IsOutput to (TooManyRanks n m) f = is_noted command files before now wanted IsOutput _ to f (TooManyRanks n m) f.comes
 none_given command files before now wanted IsOutput to (CannotRead w) f =
     (f.comes.0, λ calm. is_noted command files before now wanted IsOutput _ to f (CannotRead w) (f.comes.1 calm))
 none_given command files before now wanted IsOutput to CannotWrite f = absurd f.comes
@@ -107,4 +111,19 @@ same_ends (Some (Script name)) t t' end same ends =
 same_ends (Some (Check name)) t t' end same ends =
     subst (λ (x : Option (List ℕ)). EndsWith (read_of text.Check x >>= (λ s. list_in s)) IsCheckOutput end) (same text.Check refl) ends
 same_ends (Some (Stencil w)) t t' end same ends =
-    subst (λ (r : Result _ Note). EndsWith r (IsStencilOutput w) end) (inputs_same w.source t t' same) ends
+    subst (λ (r : Result Inputs Note). EndsWith (r >>= planned w) (IsStencilOutput w) end) (inputs_same w.source t t' same) ends
+
+-- an output of which a front was written
+pub written_in_part : {E : Type 0} (command : Option Command) (files : Files) (old new : Option (List ℕ)) (output piece : List ℕ) (result : Result (Unit {0}) E) (cause : E)
+    → Explains command files (λ end. end ≡ answered output) → piece ≡ output → Writes old new piece result → result ≡ Err cause
+    → Explains command files (λ end. (end.status ≡ Done) × AddsFront old new end.output)
+written_in_part command files old new output piece result cause x same writes failed =
+    let front : AddsFront old new piece = subst (λ (r : Result (Unit {0}) _). Writes old new piece r) failed writes in
+    record {
+      texts = x.texts;
+      end = x.end;
+      found = x.found;
+      ends = x.ends;
+      says = subst (λ (e : Outcome). (e.status ≡ Done) × AddsFront old new e.output) (sym x.says)
+          (refl, subst (λ (p : List ℕ). AddsFront old new p) same front);
+    }

@@ -8,10 +8,10 @@ use Rattle.script_text.specs.declared.fault.ScriptFault.TheVariants as script_fa
 use Rattle.event_check.specs.declared.fault.CheckFault.TheVariants as check_fault
 use Rattle.stencil_top.specs.Words.{Command, Script, Check, Stencil, file_of}
 use Rattle.stencil_top.specs.Note.{status_of, note_text, Notes}
-use Rattle.stencil_top.specs.Outcome.{Outcome, Ends, EndsWith, IsStencilOutput, IsCheckOutput, noted, texts_in, inputs_of, list_to_check, script_output}
+use Rattle.stencil_top.specs.Outcome.{Outcome, Ends, EndsWith, IsStencilOutput, IsCheckOutput, noted, texts_in, begun, list_to_check, script_output}
 use Rattle.stencil_top.specs.Run.{Files, Explains, IsNoted, IsCause, EndsAsTold, NeedsNone}
 use Rattle.stencil_top.specs.declared.note.Note.{Note}
-use Rattle.stencil_top.specs.declared.note.Note.TheVariants.{Usage, TooLong, BadScript, BadList, BadText, CannotRead, CannotWrite, OutOfMemory}
+use Rattle.stencil_top.specs.declared.note.Note.TheVariants.{Usage, TooLong, BadScript, BadList, BadText, TooManyRanks, CannotRead, CannotWrite, OutOfMemory}
 use Rattle.stencil_top.specs.declared.status.Status.{Status}
 use Rattle.stencil_top.specs.declared.status.Status.TheVariants.{Done, NoMemory}
 use Rattle.stencil_top.proofs.Texts.{not_true}
@@ -37,6 +37,7 @@ never_done (BadList check_fault.NoMemory) is = cc
 never_done (BadList _) is = cc
 never_done (BadText w text_fault.NoMemory) is = cc
 never_done (BadText w _) is = cc
+never_done (TooManyRanks n m) is = cc
 never_done (CannotRead w) is = cc
 never_done CannotWrite is = cc
 never_done OutOfMemory is = cc
@@ -50,7 +51,7 @@ quiet : (command : Option Command) (t : _) (end : Outcome) → Ends command t en
 quiet None t end ends done = absurd (never_done Usage (ap (λ (o : Outcome). o.status) (sym ends) ∙ done))
 quiet (Some (Script name)) t end ends done = quiet_with (script_output t) _ end ends done
 quiet (Some (Check name)) t end ends done = quiet_with (list_to_check t) IsCheckOutput end ends done
-quiet (Some (Stencil w)) t end ends done = quiet_with (inputs_of w.source t) (IsStencilOutput w) end ends done
+quiet (Some (Stencil w)) t end ends done = quiet_with (begun w t) (IsStencilOutput w) end ends done
 
 -- an output that was written
 pub told_output : (files : Files) (command : Option Command) (ReadFailed WriteFailed : Type 0) (out out' line : Option (List ℕ)) (count : ℕ)
@@ -112,6 +113,8 @@ told_cause command held W (BadList fault) status out out' line line' b n b' n' s
     inr (noted_as_told command held (BadList fault) status out out' line line' b n status_is (nothing (λ w. no_write (write w))) notes is)
 told_cause command held W (BadText w fault) status out out' line line' b n b' n' status_is is write nothing notes no_read no_write =
     inr (noted_as_told command held (BadText w fault) status out out' line line' b n status_is (nothing (λ w. no_write (write w))) notes is)
+told_cause command held W (TooManyRanks n m) status out out' line line' b n' b' n'' status_is is write nothing notes no_read no_write =
+    inr (noted_as_told command held (TooManyRanks n m) status out out' line line' b n' status_is (nothing (λ w. no_write (write w))) notes is)
 told_cause command held W (CannotRead w) status out out' line line' b n b' n' status_is is write nothing notes no_read no_write =
     inr (noted_as_told command held (CannotRead w) status out out' line line' b n status_is (nothing (λ w. no_write (write w))) notes (is.1 no_read))
 told_cause command held W CannotWrite status out out' line line' b n b' n' status_is is write nothing notes no_read no_write = absurd (no_write (write refl))
@@ -152,6 +155,7 @@ cause_alone command files (TooLong w) before now none is = explained_alone comma
 cause_alone command files (BadScript fault) before now none is = explained_alone command files (λ end. end ≡ noted (BadScript fault)) none is
 cause_alone command files (BadList fault) before now none is = explained_alone command files (λ end. end ≡ noted (BadList fault)) none is
 cause_alone command files (BadText w fault) before now none is = explained_alone command files (λ end. end ≡ noted (BadText w fault)) none is
+cause_alone command files (TooManyRanks n m) before now none is = explained_alone command files (λ end. end ≡ noted (TooManyRanks n m)) none is
 cause_alone command files (CannotRead w) before now none is =
     let needed : file_of command w ≡ Some is.0.file = is.0.needed in
     let unneeded : file_of command w ≡ None = none w in

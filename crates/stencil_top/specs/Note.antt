@@ -14,8 +14,8 @@ use Rattle.stencil_top.specs.declared.status.Status.TheVariants as status
 use Rattle.stencil_top.specs.declared.note.TextName.{TextName}
 use Rattle.stencil_top.specs.declared.note.TextName.TheVariants as text
 use Rattle.stencil_top.specs.declared.note.Note.{Note}
-use Rattle.stencil_top.specs.declared.note.Note.TheVariants.{Usage, TooLong, BadScript, BadText, CannotRead}
-use Rattle.stencil_top.specs.declared.note.Note.TheVariants.{CannotWrite, OutOfMemory, BadList}
+use Rattle.stencil_top.specs.declared.note.Note.TheVariants.{Usage, TooLong, BadScript, BadText, TooManyRanks}
+use Rattle.stencil_top.specs.declared.note.Note.TheVariants.{CannotRead, CannotWrite, OutOfMemory, BadList}
 
 -- the status of a run that ends for this cause
 abbrev pub status_of : Note → Status
@@ -27,6 +27,7 @@ status_of (BadList check_fault.NoMemory) = status.NoMemory
 status_of (BadList _) = status.Refused
 status_of (BadText _ text_fault.NoMemory) = status.NoMemory
 status_of (BadText _ _) = status.Refused
+status_of (TooManyRanks _ _) = status.Refused
 status_of (CannotRead _) = status.ReadFault
 status_of CannotWrite = status.WriteFault
 status_of OutOfMemory = status.NoMemory
@@ -79,6 +80,10 @@ check_message (check_fault.TooMany line) = at_line text.Check line (codes ": too
 check_message (check_fault.BadEvent line) = at_line text.Check line (codes ": bad event")
 check_message check_fault.NoMemory = out_of_memory
 
+abbrev pub plan_message : ℕ → ℕ → List ℕ
+plan_message ranks rows =
+    codes "partstencil: plan: " ++ decimal ranks ++ codes " ranks for " ++ decimal rows ++ codes " rows"
+
 -- the words of a note
 unfoldable pub message_of : Note → List ℕ
 message_of Usage = codes "usage: partstencil stencil OPTIONS | partstencil script FILE"
@@ -86,6 +91,7 @@ message_of (TooLong which) = codes "partstencil: " ++ name_of which ++ codes ": 
 message_of (BadScript fault) = script_message fault
 message_of (BadList fault) = check_message fault
 message_of (BadText which fault) = text_message which fault
+message_of (TooManyRanks ranks rows) = plan_message ranks rows
 message_of (CannotRead which) = codes "partstencil: cannot read " ++ name_of which
 message_of CannotWrite = codes "partstencil: cannot write"
 message_of OutOfMemory = out_of_memory

@@ -15,6 +15,8 @@ use Rattle.script_run.specs.Run.{answers_of}
 use Rattle.event_check.specs.Lists.{Listing, listing_of}
 use Rattle.event_check.specs.Output.{IsTold}
 use Rattle.event_check.specs.declared.fault.CheckFault.{CheckFault}
+use Rattle.halo_plan.specs.Plan.{Plan}
+use Rattle.halo_plan.specs.Making.{needs_more}
 use Rattle.stencil_words.specs.declared.words.Size.{Size}
 use Rattle.stencil_words.specs.declared.words.StencilWords.{StencilWords}
 use Rattle.stencil_words.specs.declared.words.Source.{Source}
@@ -26,7 +28,8 @@ use Rattle.stencil_top.specs.declared.status.Status.TheVariants.{Done}
 use Rattle.stencil_top.specs.declared.note.TextName.{TextName}
 use Rattle.stencil_top.specs.declared.note.TextName.TheVariants as text
 use Rattle.stencil_top.specs.declared.note.Note.{Note}
-use Rattle.stencil_top.specs.declared.note.Note.TheVariants.{Usage, TooLong, BadScript, BadList, BadText, CannotRead}
+use Rattle.stencil_top.specs.declared.note.Note.TheVariants.{Usage, TooLong, BadScript, BadList, BadText}
+use Rattle.stencil_top.specs.declared.note.Note.TheVariants.{TooManyRanks, CannotRead}
 use Rattle.stencil_top.specs.declared.reading.Inputs.{Inputs}
 
 -- the text of each name, where there is one
@@ -118,6 +121,35 @@ inputs_of (Make size (Some weights)) files = do
   made_with size weights_text
 inputs_of (Make size None) files = Ok record { grid = made_of size; weights = default_weights }
 
+-- how the words' ranks share the grid, whose weights reach so far
+abbrev pub plan_of : StencilWords → Inputs → Plan
+plan_of w inputs = record {
+  rows = inputs.grid.rows;
+  cols = inputs.grid.cols;
+  ranks = w.plan.ranks;
+  send_parts = w.plan.send_parts;
+  recv_parts = w.plan.recv_parts;
+  grain = w.plan.grain;
+  depth = w.plan.depth;
+  reach = inputs.weights.reach;
+  around = w.around;
+}
+
+-- a plan that isn't refused; no shape is refused
+abbrev pub or_bad_plan : Plan → Result Plan Note
+or_bad_plan p = if needs_more p.rows p.ranks p.reach then Err (TooManyRanks p.ranks p.rows) else Ok p
+
+-- what a stencil begins with, where its plan isn't refused; the plan is made of texts that were read
+abbrev pub planned : StencilWords → Inputs → Result Inputs Note
+planned w inputs = do
+  plan ← or_bad_plan (plan_of w inputs)
+  Ok inputs
+
+abbrev pub begun : StencilWords → Texts → Result Inputs Note
+begun w files = do
+  inputs ← inputs_of w.source files
+  planned w inputs
+
 -- the rule that the words give with these weights
 pub record IsRuleOf (w : StencilWords) (weights : Square) (rule : Rule) : Type 0 where
   pub weights_are : rule.weights ≡ weights
@@ -130,7 +162,7 @@ abbrev pub printed : Source → ℕ → Plane → List ℕ
 printed (Grid grid weights) steps last = grid_text last
 printed (Make size weights) steps last = summary_text last steps
 
--- the output of a stencil: the grid after the last step of that rule
+-- the output of a stencil: the grid after the last step of that rule; the plan has no part in it
 pub record IsStencilOutput (w : StencilWords) (inputs : Inputs) (output : List ℕ) : Type 0 where
   pub rule : Rule
   pub rule_is : IsRuleOf w inputs.weights rule
@@ -155,12 +187,12 @@ abbrev pub EndsWith : {A : Type 0} → Result A Note → (A → List ℕ → Typ
 EndsWith (Ok x) IsOutput end = (output : List ℕ) × IsOutput x output × (end ≡ answered output)
 EndsWith (Err cause) IsOutput end = end ≡ noted cause
 
--- the outcome of a command with these texts, where nothing fails and memory is left; no command is refused by its words
+-- the outcome of a command with these texts, where nothing fails and memory is left
 abbrev pub Ends : Option Command → Texts → Outcome → Type 0
 Ends None files end = end ≡ noted Usage
 Ends (Some (Script name)) files end = EndsWith (script_output files) (λ answers output. output ≡ answers) end
 Ends (Some (Check name)) files end = EndsWith (list_to_check files) IsCheckOutput end
-Ends (Some (Stencil w)) files end = EndsWith (inputs_of w.source files) (IsStencilOutput w) end
+Ends (Some (Stencil w)) files end = EndsWith (begun w files) (IsStencilOutput w) end
 
 -- the texts in the files of these names
 abbrev pub texts_in : Texts → (List ℕ → Option (List ℕ)) → Texts

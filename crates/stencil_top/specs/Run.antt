@@ -8,8 +8,8 @@ use Rattle.stencil_top.specs.declared.status.Status.{Status}
 use Rattle.stencil_top.specs.declared.status.Status.TheVariants.{Done}
 use Rattle.stencil_top.specs.declared.note.TextName.{TextName}
 use Rattle.stencil_top.specs.declared.note.Note.{Note}
-use Rattle.stencil_top.specs.declared.note.Note.TheVariants.{Usage, TooLong, BadScript, BadList, BadText, CannotRead}
-use Rattle.stencil_top.specs.declared.note.Note.TheVariants.{CannotWrite, OutOfMemory}
+use Rattle.stencil_top.specs.declared.note.Note.TheVariants.{Usage, TooLong, BadScript, BadList, BadText}
+use Rattle.stencil_top.specs.declared.note.Note.TheVariants.{TooManyRanks, CannotRead, CannotWrite, OutOfMemory}
 
 -- the files, by name, where they are told
 abbrev pub Files : Type 0
@@ -49,6 +49,7 @@ IsCause (TooLong which) command files before now = IsNoted (TooLong which) comma
 IsCause (BadScript fault) command files before now = IsNoted (BadScript fault) command files
 IsCause (BadList fault) command files before now = IsNoted (BadList fault) command files
 IsCause (BadText which fault) command files before now = IsNoted (BadText which fault) command files
+IsCause (TooManyRanks ranks rows) command files before now = IsNoted (TooManyRanks ranks rows) command files
 IsCause (CannotRead which) command files before now =
     IsUnread (file_of command) files before now which × (¬ Rose before now → IsNoted (CannotRead which) command files)
 IsCause CannotWrite command files before now = Explains command files (λ end. end.status ≡ Done)

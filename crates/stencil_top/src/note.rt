@@ -2,7 +2,7 @@
 
 ghost use Rattle.std.specs.Prelude.{◌≡◌, ◌<◌, ◌≤◌, ◌+◌, ◌++◌, length, codes, decimal};
 ghost use Rattle.stencil_top.specs.Note.{status_of, name_of, at_row, at_column, at_line, text_message, script_message};
-ghost use Rattle.stencil_top.specs.Note.{check_message};
+ghost use Rattle.stencil_top.specs.Note.{check_message, plan_message};
 ghost use Rattle.stencil_top.specs.Note.{message_of, note_text, Notes};
 
 use crate::status::Status;
@@ -45,6 +45,8 @@ pub enum Note {
     BadList(CheckFault),
     /// The text of a grid or of weights is refused.
     BadText(TextName, TextFault),
+    /// There are two ranks or more, and together they need more rows than the grid has.
+    TooManyRanks { ranks: u32, rows: u32 },
     /// The file could not be read, or isn't there.
     CannotRead(TextName),
     /// The output could not be written, or not all of it.
@@ -64,9 +66,11 @@ impl Note {
             | Note::BadList(CheckFault::NoMemory)
             | Note::BadText(_, TextFault::NoMemory)
             | Note::OutOfMemory => Status::NoMemory,
-            Note::TooLong(_) | Note::BadScript(_) | Note::BadList(_) | Note::BadText(_, _) => {
-                Status::Refused
-            }
+            Note::TooLong(_)
+            | Note::BadScript(_)
+            | Note::BadList(_)
+            | Note::BadText(_, _)
+            | Note::TooManyRanks { .. } => Status::Refused,
             Note::CannotRead(_) => Status::ReadFault,
             Note::CannotWrite => Status::WriteFault,
         }
@@ -199,6 +203,20 @@ fn check_line(fault: CheckFault) -> Line
     }
 }
 
+/// The words of a plan whose ranks are too many.
+fn plan_line(ranks: u32, rows: u32) -> Line
+    ensures words { result.bytes ≡ plan_message ranks rows }
+    ensures short { length result.bytes < MAX_LINE }
+{
+    let mut line = ArrayString::new();
+    line.push_str("partstencil: plan: ");
+    push_number(&mut line, ranks);
+    line.push_str(" ranks for ");
+    push_number(&mut line, rows);
+    line.push_str(" rows");
+    line
+}
+
 /// The words of a note about a whole file.
 fn file_line(front: &str, text: TextName, end: &str) -> Line
     requires front { length front.now ≤ 30 }
@@ -225,6 +243,7 @@ fn message(note: Note) -> Line
         Note::BadScript(fault) => script_line(fault),
         Note::BadList(fault) => check_line(fault),
         Note::BadText(text, fault) => text_line(text, fault),
+        Note::TooManyRanks { ranks, rows } => plan_line(ranks, rows),
         Note::CannotRead(text) => file_line("partstencil: cannot read ", text, ""),
         Note::CannotWrite => plain_line("partstencil: cannot write"),
         Note::OutOfMemory => plain_line("partstencil: out of memory"),

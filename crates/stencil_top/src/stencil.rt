@@ -4,14 +4,48 @@ ghost use Rattle.std.specs.Prelude.{◌≡◌, IfOk};
 ghost use Rattle.stencil_def.specs.Plane.{IsPlane};
 ghost use Rattle.stencil_def.specs.Step.{fold_plane};
 ghost use Rattle.stencil_words.specs.Limits.{IsRead};
-ghost use Rattle.stencil_top.specs.Outcome.{IsRuleOf, IsStencilOutput, printed};
+ghost use Rattle.stencil_top.specs.Outcome.{IsRuleOf, IsStencilOutput, or_bad_plan, plan_of, printed};
 
+use crate::note::Note;
 use crate::reading::Inputs;
 use cell_lanes::run_lanes;
 use grid_text::{print_grid, print_summary};
+use halo_plan::{HaloPlan, PlanFault};
 use std::alloc::{AllocError, Global};
 use stencil_def::{Grid, Rule, Weights};
-use stencil_words::{Source, StencilWords};
+use stencil_words::{PlanWords, Source, StencilWords};
+
+/// The plan of the words' ranks over a grid, for weights that reach so far.
+pub(crate) fn plan_of(words: &StencilWords, inputs: &Inputs) -> Result<HaloPlan, Note>
+    requires { IsRead words.now }
+    ensures { result ≡ or_bad_plan (plan_of words.now inputs.now) }
+{
+    let rows = inputs.grid.rows();
+    let cols = inputs.grid.cols();
+    let reach = inputs.weights.reach();
+    let PlanWords {
+        ranks,
+        send_parts,
+        recv_parts,
+        grain,
+        depth,
+    } = words.plan;
+    match HaloPlan::new(
+        rows,
+        cols,
+        ranks,
+        send_parts,
+        recv_parts,
+        grain,
+        depth,
+        reach,
+        words.around,
+    ) {
+        Ok(plan) => Ok(plan),
+        Err(PlanFault::TooManyRanks { ranks, rows }) => Err(Note::TooManyRanks { ranks, rows }),
+        Err(PlanFault::Shape(_)) => unreachable!(),
+    }
+}
 
 /// The rule that the words give with these weights.
 fn rule_of(words: &StencilWords, weights: Weights) -> Rule

@@ -1,0 +1,105 @@
+-- Words that are the same but for their plan have one outcome: both begin with the same grid and weights, and then have
+-- the same rule, where neither plan is refused.
+use Rattle.std.proofs.Common.{◌≡◌, ℕ, zero, suc, ◌+◌, ◌*◌, ◌/◌, ◌%◌, ℤ, pos, Bool, true, false, List, map, Result, Ok, Err, refl, sym, ap, ◌∙◌, subst}
+use Rattle.std.specs.Prelude.{if◌then◌else◌, int_div, ◌-ℤ◌, ◌*ℤ◌}
+use Rattle.std.specs.List.{range_with_len}
+use Rattle.stencil_def.specs.Plane.{Plane}
+use Rattle.stencil_def.specs.Square.{Square, side, weight}
+use Rattle.stencil_def.specs.Step.{cell_or, clamped, fold_plane, new_cell, next_plane, place, read, sum_below}
+use Rattle.stencil_def.specs.declared.rule.Around.{Around}
+use Rattle.stencil_def.specs.declared.rule.Rule.{Rule}
+use Rattle.halo_plan.specs.Making.{needs_more}
+use Rattle.stencil_words.specs.declared.words.StencilWords.{StencilWords}
+use Rattle.stencil_top.specs.Outcome.{EndsWith, IsRuleOf, IsStencilOutput, Outcome, answered, ◌>>=◌, inputs_of, plan_of, planned, printed}
+use Rattle.stencil_top.specs.Plans.{IsPlanRefused, PlansLeaveOutcomes}
+use Rattle.stencil_top.specs.declared.note.Note.{Note}
+use Rattle.stencil_top.specs.declared.note.Note.TheVariants.{TooManyRanks}
+use Rattle.stencil_top.specs.declared.reading.Inputs.{Inputs}
+
+-- rules with the same numbers
+record IsSameRule (r s : Rule) : Type 0 where
+  weights_same : r.weights ≡ s.weights
+  div_same : r.div ≡ s.div
+  edge_same : r.edge ≡ s.edge
+  around_same : r.around ≡ s.around
+
+-- they give one new cell, one next grid and one grid after any number of steps
+one_cell : (g : Plane) (r s : Rule) → IsSameRule r s → (row col : ℕ) → new_cell g r row col ≡ new_cell g s row col
+unfolding new_cell read
+one_cell g r s e row col = λ i. cell_by (e.weights_same i) (e.div_same i) (e.edge_same i) (e.around_same i)
+  where
+    read_by : Square → ℤ → Around → ℕ → ℕ → ℤ
+    read_by weights edge around a b =
+        cell_or g edge (place around g.rows (pos (row + a) -ℤ pos weights.reach)) (place around g.cols (pos (col + b) -ℤ pos weights.reach))
+
+    cell_by : Square → ℤ → ℤ → Around → ℤ
+    cell_by weights div edge around =
+        clamped (int_div (sum_below (side weights) (λ a. sum_below (side weights) (λ b. weight weights a b *ℤ read_by weights edge around a b))) div)
+
+one_next : (g : Plane) (r s : Rule) → IsSameRule r s → next_plane g r ≡ next_plane g s
+unfolding next_plane
+one_next g r s e = λ i. record {
+  rows = g.rows;
+  cols = g.cols;
+  values = map (λ k. one_cell g r s e (k / g.cols) (k % g.cols) i) (range_with_len 0 (g.rows * g.cols));
+}
+
+one_fold : (g : Plane) (r s : Rule) → IsSameRule r s → (n : ℕ) → fold_plane g r n ≡ fold_plane g s n
+unfolding fold_plane
+one_fold g r s e zero = refl
+one_fold g r s e (suc n) = ap (λ (p : Plane). next_plane p r) (one_fold g r s e n) ∙ one_next (fold_plane g s n) r s e
+
+-- the words and the weights give one rule
+one_rule : (w : StencilWords) (weights : Square) (r s : Rule) → IsRuleOf w weights r → IsRuleOf w weights s → IsSameRule r s
+one_rule w weights r s a b = record {
+  weights_same = a.weights_are ∙ sym b.weights_are;
+  div_same = a.div_is ∙ sym b.div_is;
+  edge_same = a.edge_is ∙ sym b.edge_is;
+  around_same = a.around_is ∙ sym b.around_is;
+}
+
+-- and so one output
+one_output : (w : StencilWords) (inputs : Inputs) (x y : List ℕ) → IsStencilOutput w inputs x → IsStencilOutput w inputs y → x ≡ y
+one_output w inputs x y a b =
+    a.output_is
+    ∙ ap (λ (p : Plane). printed w.source w.steps p) (one_fold inputs.grid a.rule b.rule (one_rule w inputs.weights a.rule b.rule a.rule_is b.rule_is) w.steps)
+    ∙ sym b.output_is
+
+-- the output doesn't speak of the plan
+other_plan : (w : StencilWords) (plan : _) (inputs : Inputs) (x : List ℕ) → IsStencilOutput (record w { plan = plan }) inputs x → IsStencilOutput w inputs x
+other_plan w plan inputs x a = record {
+  rule = a.rule;
+  rule_is = record {
+    weights_are = a.rule_is.weights_are;
+    div_is = a.rule_is.div_is;
+    edge_is = a.rule_is.edge_is;
+    around_is = a.rule_is.around_is;
+  };
+  output_is = a.output_is;
+}
+
+-- what was begun with, once the plan isn't refused
+unrefused : (w : StencilWords) (inputs : Inputs) (end : Outcome) → EndsWith (planned w inputs) (IsStencilOutput w) end → ¬ IsPlanRefused end
+    → EndsWith (Ok inputs) (IsStencilOutput w) end
+unrefused w inputs end ends not_refused = by (needs_more inputs.grid.rows w.plan.ranks inputs.weights.reach) ends
+  where
+    by : (b : Bool)
+        → EndsWith ((if b then Err (TooManyRanks w.plan.ranks inputs.grid.rows) else Ok (plan_of w inputs)) >>= (λ plan. Ok inputs)) (IsStencilOutput w) end
+        → EndsWith (Ok inputs) (IsStencilOutput w) end
+    by true e = absurd (not_refused (w.plan.ranks, inputs.grid.rows, e))
+    by false e = e
+
+one_outcome : (w : StencilWords) (plan : _) (r : Result Inputs Note) (end end' : Outcome)
+    → EndsWith (r >>= planned w) (IsStencilOutput w) end
+    → EndsWith (r >>= planned (record w { plan = plan })) (IsStencilOutput (record w { plan = plan })) end'
+    → ¬ IsPlanRefused end → ¬ IsPlanRefused end' → end ≡ end'
+one_outcome w plan (Err cause) end end' a b fits fits' = a ∙ sym b
+one_outcome w plan (Ok inputs) end end' a b fits fits' =
+    let x = unrefused w inputs end a fits in
+    let y = unrefused (record w { plan = plan }) inputs end' b fits' in
+    x.2 ∙ ap answered (one_output w inputs x.0 y.0 x.1 (other_plan w plan inputs y.0 y.1)) ∙ sym y.2
+
+pub plans_leave_outcomes : PlansLeaveOutcomes
+plans_leave_outcomes w v files end end' same a b fits fits' =
+    one_outcome w v.plan (inputs_of w.source files) end end' a
+    (subst (λ (u : StencilWords). EndsWith (inputs_of u.source files >>= planned u) (IsStencilOutput u) end') (sym same) b) fits fits'
