@@ -21,12 +21,14 @@ use Rattle.pair_core.specs.Facts.{piece_word, IsKept, BringsHome}
 use Rattle.pair_core.specs.declared.view.Mark.{Mark}
 use Rattle.pair_core.proofs.Facts.{put_here, put_else, lists_put, number_lt, later_trans}
 use Rattle.slot_rows.proofs.Lists.{at_split}
+use Rattle.pair_rule.specs.Addresses.{address, HasWords}
 use Rattle.pair_rule.specs.Buf.{Buf}
 use Rattle.pair_rule.specs.Views as view
 use Rattle.pair_rule.specs.Rule.{At, Shown, slot_number, Stands, Given, Agrees, IsMarked, Rule}
 use Rattle.pair_rule.specs.declared.view.View.{View}
 use Rattle.pair_rule.specs.declared.view.Standing.TheVariants.{Seated, Told, Closed}
 use Rattle.pair_rule.specs.declared.rule.Key.{Key}
+use Rattle.pair_rule.proofs.Addresses.{address_lt, has_put}
 use Rattle.pair_rule.proofs.Core.{CoreLaws}
 
 -- a step of the seat n changed nothing of another seat, and no seat's life
@@ -83,13 +85,12 @@ module _ {T : Type 0} (may : T → ℕ → ℕ → ℕ → Type 0) (key : Key T)
       → IsKept key.geometry c' e c → 1 ≤ round_in (piece_word key.geometry c' e c) → b.bytes ≡ cell_bytes key.geometry (bytes' (round_in (piece_word key.geometry c' e c))) c)
       → ((n : ℕ) (m : Mark (List ℕ)) → Contains (c'.marks n) m → IsMarked may key bytes' m)
       → ((m : Mark (List ℕ)) → Contains c'.takes m → m.with ≡ part_bytes key.geometry (bytes' m.round) m.partition)
-      → Held record { words = set s.words (number key.geometry x) w; homes = homes'; views = set s.views id d' } c'
+      → Held record { words = set s.words (address key.geometry x) w; homes = homes'; views = set s.views id d' } c'
   steps s r id d d' x w homes' c' bytes' at live live' same fits sound words grows others mine long slots kept marked took =
       let g : Shape = key.geometry in
       let a = r.seats id d at live in
-      let index : number g x < length s.words = subst (λ (z : ℕ). number g x < z) (sym r.size) (number_lt g x fits) in
-      let set_words : ListsWords g (set s.words (number g x) w) (put_word x w r.core.word) =
-      lists_put g s.words x (number g x) w r.core.word w (λ z. z) r.words fits refl index refl in (
+      let index : address g x < length s.words = subst (λ (z : ℕ). address g x < z) (sym r.size) (address_lt g x fits) in
+      let set_words : HasWords g (set s.words (address g x) w) (put_word x w r.core.word) = has_put g s.words x w r.core.word r.words fits index in (
         record {
           core = c';
           seat = r.seat;
@@ -99,7 +100,7 @@ module _ {T : Type 0} (may : T → ℕ → ℕ → ℕ → Type 0) (key : Key T)
           bytes = bytes';
           shape = r.shape;
           sound = sound;
-          size = length-set s.words (number g x) w ∙ r.size;
+          size = length-set s.words (address g x) w ∙ r.size;
           room = long ∙ r.room;
           words = λ y f. set_words y f ∙ words y f;
           slots = slots;
@@ -203,7 +204,7 @@ module _ {T : Type 0} (may : T → ℕ → ℕ → ℕ → Type 0) (key : Key T)
       → Others r.core c' d.number
       → Agrees key.geometry c' r.alone r.markers r.watchers r.seat id d'
       → ((e c : ℕ) → r.core.slot e c ≡ c'.slot e c) → ((n : ℕ) → c'.marks n ≡ r.core.marks n) → c'.takes ≡ r.core.takes
-      → Held may key record { words = set s.words (number key.geometry x) w; homes = s.homes; views = set s.views id d' } c'
+      → Held may key record { words = set s.words (address key.geometry x) w; homes = s.homes; views = set s.views id d' } c'
   quiet s r id d d' m c' x w at live live' same fits allowed is other words others mine slots marks takes =
       let g : Shape = key.geometry in
       let before : (e c : ℕ) → e < g.depth → c < cells g → IsKept g c' e c → BringsHome g r.core m e c ⊎ (IsKept g r.core e c × (round_in (piece_word g c' e c) ≡ round_in (piece_word g r.core e c))) =

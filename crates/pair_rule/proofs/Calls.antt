@@ -6,9 +6,8 @@ use lib.ListN.{get_elem?}
 use Rattle.atomic_table.specs.Table.{Step, Allows}
 use Rattle.atomic_table.specs.Seated.{TableId}
 use Rattle.part_geometry.specs.Shape.{Shape, IsShape}
-use Rattle.pair_core.specs.Names.{Name, Fits, number}
-use Rattle.pair_core.specs.State.{word_count}
-use Rattle.pair_core.proofs.Facts.{number_lt}
+use Rattle.pair_core.specs.Names.{Name, Fits}
+use Rattle.pair_rule.specs.Addresses.{address, table_size}
 use Rattle.pair_rule.specs.Buf.{Buf}
 use Rattle.pair_rule.specs.Rule.{At, Shown, Rule, Holds}
 use Rattle.pair_rule.specs.Seats.{PairOf, IsOf}
@@ -16,6 +15,7 @@ use Rattle.pair_rule.specs.Steps.{Seat, goes}
 use Rattle.pair_rule.specs.declared.view.View.{View}
 use Rattle.pair_rule.specs.declared.view.Standing.TheVariants.{Seated}
 use Rattle.pair_rule.specs.declared.rule.Key.{Key}
+use Rattle.pair_rule.proofs.Addresses.{address_lt}
 use Rattle.pair_rule.proofs.Core.{laws}
 use Rattle.pair_rule.proofs.Bridge.{Held}
 use Rattle.pair_rule.proofs.Sides.{stepped_to}
@@ -26,25 +26,25 @@ abbrev pub of_key : {T : Type 0} → TableId → Key T → PairOf T
 of_key t k = record { table = t; key = k }
 
 module _ {T : Type 0} (may : T → ℕ → ℕ → ℕ → Type 0) (key : Key T) (tables : Shape) (id' : TableId) (pair : PairOf T) (same : tables ≡ key.geometry)
-    (words : id'.words ≡ word_count key.geometry) (is : of_key id' key ≡ pair) where
+    (words : id'.words ≡ table_size key.geometry) (is : of_key id' key ≡ pair) where
   -- the seat is of the table, and the word's number is one of it
-  pub fitting : (mine : TableId) (d : View) (x : Shape → Name) (index : ℕ) → IsOf mine d pair → index ≡ number tables (x tables) → Fits key.geometry (x key.geometry)
-      → (mine ≡ id') × (index < id'.words) × (d.geometry ≡ key.geometry) × (index ≡ number key.geometry (x key.geometry))
+  pub fitting : (mine : TableId) (d : View) (x : Shape → Name) (index : ℕ) → IsOf mine d pair → index ≡ address tables (x tables) → Fits key.geometry (x key.geometry)
+      → (mine ≡ id') × (index < id'.words) × (d.geometry ≡ key.geometry) × (index ≡ address key.geometry (x key.geometry))
   fitting mine d x index of at fits =
-      let here : index ≡ number key.geometry (x key.geometry) = at ∙ ap (λ (g : Shape). number g (x g)) same in (
+      let here : index ≡ address key.geometry (x key.geometry) = at ∙ ap (λ (g : Shape). address g (x g)) same in (
         of.0 ∙ sym (ap (λ (p : PairOf T). p.table) is),
-        subst (λ (z : ℕ × ℕ). z.0 < z.1) (λ i. (sym here i, sym words i)) (number_lt key.geometry (x key.geometry) fits),
+        subst (λ (z : ℕ × ℕ). z.0 < z.1) (λ i. (sym here i, sym words i)) (address_lt key.geometry (x key.geometry) fits),
         of.1 ∙ sym (ap (λ (p : PairOf T). p.key.geometry) is),
         here,
       )
 
   -- what a step that moves no slot is asked
   pub asked : (shape : IsShape key.geometry) (mine : TableId) (id : ℕ) (me : Seat) (x : Shape → Name) (index : ℕ) (f found : ℕ → ℕ) (view : ℕ → View → View) (tells : ℕ → View → Type 0) (st : Step (Option Buf))
-      → IsOf mine me.0 pair → me.0.standing ≡ Seated → index ≡ number tables (x tables) → Fits key.geometry (x key.geometry)
+      → IsOf mine me.0 pair → me.0.standing ≡ Seated → index ≡ address tables (x tables) → Fits key.geometry (x key.geometry)
       → ((s : At) (r : Rule may key s) → get_elem? s.views id ≡ some me.0
-      → (c' : Shown) × Held may key (stepped_to may key (laws key.geometry shape) s (x key.geometry) (f (get_or s.words (number key.geometry (x key.geometry)) 0)) id
-      (view (found (get_or s.words (number key.geometry (x key.geometry)) 0)) me.0)) c'
-      × tells (found (get_or s.words (number key.geometry (x key.geometry)) 0)) me.0)
+      → (c' : Shown) × Held may key (stepped_to may key (laws key.geometry shape) s (x key.geometry) (f (get_or s.words (address key.geometry (x key.geometry)) 0)) id
+      (view (found (get_or s.words (address key.geometry (x key.geometry)) 0)) me.0)) c'
+      × tells (found (get_or s.words (address key.geometry (x key.geometry)) 0)) me.0)
       → (mine ≡ id') × (index < id'.words) × Allows (Holds may key) id'.slots id me index f (λ n. goes view tells st me (found n))
   asked shape mine id me x index f found view tells st of live at fits leads =
       let all = fitting mine me.0 x index of at fits in (

@@ -16,7 +16,7 @@ use Rattle.part_tables.specs.Parts.{first_sent}
 use Rattle.part_tables.specs.Bytes.{cell_bytes, part_bytes}
 use Rattle.part_tables.proofs.Facts.{in_sent, first_sent-le, first_sent-mono, cell_bytes-agree}
 use Rattle.pair_core.specs.Words.{bit}
-use Rattle.pair_core.specs.Names.{Name, Claim, Fits, number, put, put_pair}
+use Rattle.pair_core.specs.Names.{Name, Claim, Fits, put, put_pair}
 use Rattle.pair_core.specs.Core.{Slot, Home, Out, times}
 use Rattle.pair_core.specs.Steps.{mark, saw, claims, loads, put_slots}
 use Rattle.pair_core.specs.Moves.{TryClaim, MayClaim, IsAllowed, after}
@@ -26,6 +26,7 @@ use Rattle.pair_core.specs.declared.view.Mark.{Mark}
 use Rattle.pair_core.specs.declared.view.Pending.{Pending}
 use Rattle.pair_core.proofs.Facts.{put_here, put_else, put_cases, put_pair_here, put_pair_else}
 use Rattle.slot_rows.proofs.Acts.{cleared, cleared_here, cleared_else, cleared_length, Stand, gathered}
+use Rattle.pair_rule.specs.Addresses.{address}
 use Rattle.pair_rule.specs.Buf.{Buf}
 use Rattle.pair_rule.specs.Rule.{At, Shown, slot_number, cell_length, Stands, Agrees, MayMark, IsMarked, Rule}
 use Rattle.pair_rule.specs.Views as view
@@ -201,7 +202,7 @@ module _ {T : Type 0} (may : T → ℕ → ℕ → ℕ → Type 0) (key : Key T)
     pub wins : (id : ℕ) (d : View) → get_elem? s.views id ≡ some d → d.standing ≡ Seated → d.number ≡ n → IsAllowed G c (TryClaim n p b)
         → after G c (TryClaim n p b) ≡ claims G n p b c → MayMark may key k p b
         → Held may key record {
-          words = set s.words (number G (Claim (p / 32))) (bit_or (c.word (Claim (p / 32))) (2 ^ (p % 32)));
+          words = set s.words (address G (Claim (p / 32))) (bit_or (c.word (Claim (p / 32))) (2 ^ (p % 32)));
           homes = cleared s.homes (slot_number G place first) count;
           views = set s.views id (view.claimed k p b (bit_or (c.word (Claim (p / 32))) (2 ^ (p % 32))) d);
         } (claims G n p b c)
@@ -220,10 +221,10 @@ module _ {T : Type 0} (may : T → ℕ → ℕ → ℕ → Type 0) (key : Key T)
 
   -- the exchange that finds the word that the marker has last seen
   pub claim_leads : (s : At) (r : Rule may key s) (id : ℕ) (d : View) (shown n p : ℕ) (b : List ℕ) → get_elem? s.views id ≡ some d → d.standing ≡ Seated → MayMake d (TryClaim n p b)
-      → view.seen d (Claim (p / 32)) ≡ shown → get_or s.words (number G (Claim (p / 32))) 0 ≡ shown → MayMark may key (round_in shown) p b
+      → view.seen d (Claim (p / 32)) ≡ shown → get_or s.words (address G (Claim (p / 32))) 0 ≡ shown → MayMark may key (round_in shown) p b
       → (ys : List Buf) × (length ys ≡ first_sent G (p + 1) - first_sent G p) × Stand s.homes (slot_number G (round_in shown % G.depth) (first_sent G p)) (map Some ys) × AreLong G (first_sent G p) ys
       × Held may key record {
-        words = set s.words (number G (Claim (p / 32))) (bit_or shown (2 ^ (p % 32)));
+        words = set s.words (address G (Claim (p / 32))) (bit_or shown (2 ^ (p % 32)));
         homes = cleared s.homes (slot_number G (round_in shown % G.depth) (first_sent G p)) (first_sent G (p + 1) - first_sent G p);
         views = set s.views id (view.claimed (round_in shown) p b (bit_or shown (2 ^ (p % 32))) d);
       } (after G r.core (TryClaim n p b))
@@ -241,7 +242,7 @@ module _ {T : Type 0} (may : T → ℕ → ℕ → ℕ → Type 0) (key : Key T)
       let round : r.core.send.round ≡ round_in shown = sym (L.facts.may_claim_active r.core p r.sound inside free).0 ∙ ap round_in word in
       let P : ℕ × ℕ → Type 0 = λ z. (ys : List Buf) × (length ys ≡ first_sent G (p + 1) - first_sent G p) × Stand s.homes (slot_number G (z.0 % G.depth) (first_sent G p)) (map Some ys) × AreLong G (first_sent G p) ys
       × Held may key record {
-        words = set s.words (number G x) (bit_or z.1 (2 ^ (p % 32)));
+        words = set s.words (address G x) (bit_or z.1 (2 ^ (p % 32)));
         homes = cleared s.homes (slot_number G (z.0 % G.depth) (first_sent G p)) (first_sent G (p + 1) - first_sent G p);
         views = set s.views id (view.claimed z.0 p b (bit_or z.1 (2 ^ (p % 32))) d);
       } (after G r.core (TryClaim n p b)) in
@@ -253,7 +254,7 @@ module _ {T : Type 0} (may : T → ℕ → ℕ → ℕ → Type 0) (key : Key T)
         l.2,
         l.3,
         subst (λ (z : Shown). Held may key record {
-          words = set s.words (number G x) (bit_or (r.core.word x) (2 ^ (p % 32)));
+          words = set s.words (address G x) (bit_or (r.core.word x) (2 ^ (p % 32)));
           homes = cleared s.homes (slot_number G (r.core.send.round % G.depth) (first_sent G p)) (first_sent G (p + 1) - first_sent G p);
           views = set s.views id (view.claimed r.core.send.round p b (bit_or (r.core.word x) (2 ^ (p % 32))) d);
         } z) (sym is) led,

@@ -17,13 +17,13 @@ use Rattle.pair_core.specs.Names.{Claim, Release, claim_words}
 use Rattle.pair_core.specs.Core.{IsMarker, IsWatcher, is_mark, times}
 use Rattle.pair_core.specs.Moves.{IsSendIdle, IsRecvIdle}
 use Rattle.pair_core.specs.Sound.{Counts, occurrences}
-use Rattle.pair_core.specs.State.{word_count}
 use Rattle.pair_core.specs.Facts.{StateFacts}
 use Rattle.pair_core.specs.declared.view.Mark.{Mark}
 use Rattle.pair_core.specs.declared.view.SendSide.{SendSide}
 use Rattle.pair_core.specs.declared.view.RecvSide.{RecvSide}
 use Rattle.pair_core.specs.declared.view.Life.{Life}
 use Rattle.pair_core.specs.declared.view.Life.TheVariants.{Live}
+use Rattle.pair_rule.specs.Addresses.{table_size}
 use Rattle.pair_rule.specs.Rule.{At, Agrees, Rule, MayMark, bytes_of, IsWhole, AreCounted, Ended, Holds}
 use Rattle.pair_rule.specs.First.{spent, closed}
 use Rattle.pair_rule.specs.declared.view.View.{View}
@@ -220,7 +220,7 @@ module _ {T : Type 0} (may : T → ℕ → ℕ → ℕ → Type 0) (key : Key T)
         (at_end (set s.views id d) d f i is)
 
   -- what the table of a closed pair says of a view of it
-  pub told_whole : (s : At) (i : ℕ) (d : View) → Holds may key s → get_elem? s.views i ≡ some d → d.standing ≡ Closed → IsWhole may key d × AreCounted may key s.words d × (length s.words ≡ word_count G)
+  pub told_whole : (s : At) (i : ℕ) (d : View) → Holds may key s → get_elem? s.views i ≡ some d → d.standing ≡ Closed → IsWhole may key d × AreCounted may key s.words d × (length s.words ≡ table_size G)
   told_whole s i d (inl r) at shut = absurd (r.running i d at shut)
   told_whole s i d (inr o) at shut = (o.whole i d at shut, o.counted i d at shut, o.size)
 

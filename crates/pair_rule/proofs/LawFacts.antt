@@ -15,7 +15,7 @@ use Rattle.part_geometry.specs.Pieces.{pieces, piece_of, Touches, TouchesRecv}
 use Rattle.part_tables.specs.Parts.{first_sent, first_received, first_shared}
 use Rattle.part_tables.specs.Bytes.{byte_at}
 use Rattle.part_tables.proofs.Facts.{in_received, first_sent-le, first_sent-mono, first_received-le, first_received-mono, start-first_received, after_shared-le, shared-some, get_or-part_bytes, cell-inside, byte_in}
-use Rattle.pair_core.specs.Names.{Name, Claim, Release, Take, Return, Piece, Fits, number}
+use Rattle.pair_core.specs.Names.{Name, Claim, Release, Take, Return, Piece, Fits}
 use Rattle.pair_core.specs.Core.{IsMarker, times}
 use Rattle.pair_core.specs.Reading.{next_round, laid}
 use Rattle.pair_core.specs.Steps.{claims, loads}
@@ -31,6 +31,7 @@ use Rattle.pair_core.proofs.Cut.{cell_piece, cell_touches, cell_touches_recv}
 use Rattle.pair_core.proofs.ReceiveFacts.{piece_le}
 use Rattle.pair_core.proofs.ReceiveMarks.{claim_past, full_claimed}
 use Rattle.slot_rows.proofs.Acts.{cleared, cleared_here, cleared_else, stocked, stocked_else}
+use Rattle.pair_rule.specs.Addresses.{address}
 use Rattle.pair_rule.specs.Buf.{Buf}
 use Rattle.pair_rule.specs.Rule.{At, Shown, slot_number, Agrees, MayMark, Rule}
 use Rattle.pair_rule.specs.Views.{seen}
@@ -272,10 +273,10 @@ module _ {T : Type 0} (may : T → ℕ → ℕ → ℕ → Type 0) (key : Key T)
     quiet : (m : Move (List ℕ)) → MayMake d m → MovesNoSlot m → LeadsTo may key s r id m 0 []
     quiet (StorePiece k i) h still = led (StorePiece k i) 0 [] _ _ _ (store_piece_leads may key L s r id d view.0 view.1 k i h) (stays s.homes)
     quiet (StoreClaim k c) h still = led (StoreClaim k c) 0 [] _ _ _ (store_claim_leads may key L s r id d view.0 view.1 k c h) (stays s.homes)
-    quiet (LoadClaim n c) h still = led (LoadClaim n c) 0 [] _ _ _ (load_claim_leads may key L s r id d view.0 view.1 n c (get_or s.words (number G (Claim c)) 0) refl h).0 (stays s.homes)
-    quiet (LoadPiece n e i) h still = led (LoadPiece n e i) 0 [] _ _ _ (load_piece_leads may key L s r id d view.0 view.1 n e i (get_or s.words (number G (Piece e i)) 0) refl h).0 (stays s.homes)
-    quiet LoadRelease h still = led LoadRelease 0 [] _ _ _ (load_release_leads may key L s r id d view.0 view.1 (get_or s.words (number G Release) 0) refl h).0 (stays s.homes)
-    quiet (ShutClaim c) h still = led (ShutClaim c) 0 [] _ _ _ (shut_claim_leads may key L s r id d view.0 view.1 c (get_or s.words (number G (Claim c)) 0) refl h) (stays s.homes)
+    quiet (LoadClaim n c) h still = led (LoadClaim n c) 0 [] _ _ _ (load_claim_leads may key L s r id d view.0 view.1 n c (get_or s.words (address G (Claim c)) 0) refl h).0 (stays s.homes)
+    quiet (LoadPiece n e i) h still = led (LoadPiece n e i) 0 [] _ _ _ (load_piece_leads may key L s r id d view.0 view.1 n e i (get_or s.words (address G (Piece e i)) 0) refl h).0 (stays s.homes)
+    quiet LoadRelease h still = led LoadRelease 0 [] _ _ _ (load_release_leads may key L s r id d view.0 view.1 (get_or s.words (address G Release) 0) refl h).0 (stays s.homes)
+    quiet (ShutClaim c) h still = led (ShutClaim c) 0 [] _ _ _ (shut_claim_leads may key L s r id d view.0 view.1 c (get_or s.words (address G (Claim c)) 0) refl h) (stays s.homes)
     quiet (TryClaim n p b) h moved = absurd moved
     quiet (LayPiece n p i) h moved = absurd moved
     quiet (StoreReturn k t) h still = led (StoreReturn k t) 0 [] _ _ _ (store_return_leads may key L s r id d view.0 view.1 k t h) (stays s.homes)
@@ -302,14 +303,14 @@ module _ {T : Type 0} (may : T → ℕ → ℕ → ℕ → Type 0) (key : Key T)
         let fits : Fits G x = word_there p G.send_parts allowed.2 in
         let saw : c.seen n x ≡ seen d x = ap (λ (z : ℕ). c.seen z x) (sym h.0) ∙ sym (seen_same G r.shape c r.alone r.markers r.watchers r.seat id d mine x fits) in
         let apart : c.word x ≢ c.seen n x = λ e. differs (r.words x fits ∙ (e ∙ saw)) in
-        let look = (load_claim_leads may key L s r id d view.0 view.1 n (p / 32) (get_or s.words (number G x) 0) refl (h.0, word_there p d.geometry.send_parts h.2)).0 in
+        let look = (load_claim_leads may key L s r id d view.0 view.1 n (p / 32) (get_or s.words (address G x) 0) refl (h.0, word_there p d.geometry.send_parts h.2)).0 in
         let is : after G c (LoadClaim n (p / 32)) ≡ after G c (TryClaim n p b) =
         ap (loads n x) (L.facts.enters_live c n allowed.1) ∙ sym (ap (λ (z : Bool). if z then claims G n p b c else loads n x c) (ne_eqb (c.word x) (c.seen n x) apart)) in
         led (TryClaim n p b) 0 [] _ _ _ (look.0, look.1 ∙ is) (stays s.homes)
 
     lay : (n p i : ℕ) (x : Pending) (bufs : List Buf) → MayMake d (LayPiece n p i) → AreFilled G d p i x bufs → LeadsTo may key s r id (LayPiece n p i) (shared_slot G x.round p i) (at_home bufs)
     lay n p i x bufs h f =
-        let l = lay_leads may key L s r id d n p i (get_or s.words (number G (Piece (x.round % G.depth) i)) 0) x f.bytes bufs view.0 view.1 h f.pends f.marked f.count f.cuts refl in
+        let l = lay_leads may key L s r id d n p i (get_or s.words (address G (Piece (x.round % G.depth) i)) 0) x f.bytes bufs view.0 view.1 h f.pends f.marked f.count f.cuts refl in
         let inside : i < pieces G = subst (λ (z : Shape). i < pieces z) mine.geometry h.1.2.piece in
         let touch : Touches G i p = subst (λ (z : Shape). Touches z i p) mine.geometry h.1.2.touches in
         let count = f.count in let deep = shared_room x.round p i inside touch in
@@ -317,13 +318,13 @@ module _ {T : Type 0} (may : T → ℕ → ℕ → ℕ → Type 0) (key : Key T)
 
     part_taken : (q : ℕ) → MayMake d (TakePart q []) → (b : List ℕ) × LeadsTo may key s r id (TakePart q b) (first_slot G (d.recv.round % G.depth) q) (all_out (cells_of G q))
     part_taken q h =
-        let t = take_leads may key L s r id d q (get_or s.words (number G (Take (q / 32))) 0) view.0 view.1 h refl in
+        let t = take_leads may key L s r id d q (get_or s.words (address G (Take (q / 32))) 0) view.0 view.1 h refl in
         let first : ℕ = first_slot G (d.recv.round % G.depth) q in
         (t.with, led (TakePart q t.with) first (all_out (cells_of G q)) _ _ _ t.led (goes_out s.homes first (cells_of G q) (received_room d.recv.round q)))
 
     part_returned : (q : ℕ) (bufs : List Buf) → MayMake d (ReturnPart q) → AreReturned G d q bufs → LeadsTo may key s r id (ReturnPart q) (first_slot G (d.recv.round % G.depth) q) (at_home bufs)
     part_returned q bufs h f =
-        let l = return_leads may key L s r id d q (get_or s.words (number G (Return (q / 32))) 0) bufs view.0 view.1 h f.count f.of refl in
+        let l = return_leads may key L s r id d q (get_or s.words (address G (Return (q / 32))) 0) bufs view.0 view.1 h f.count f.of refl in
         let first : ℕ = first_slot G (d.recv.round % G.depth) q in
         let count = f.count in let deep = received_room d.recv.round q in
         led (ReturnPart q) first (at_home bufs) _ _ _ l (comes_home s.homes first bufs (omega arith))

@@ -15,7 +15,7 @@ use Rattle.part_geometry.specs.Pieces.{pieces, piece_of, first_part, Touches}
 use Rattle.part_tables.specs.Parts.{first_shared, after_shared}
 use Rattle.part_tables.specs.Bytes.{cell_bytes, cut}
 use Rattle.part_tables.proofs.Facts.{in_shared, after_shared-le, cut-is, length-cut, shared-some}
-use Rattle.pair_core.specs.Names.{Name, Piece, Fits, number}
+use Rattle.pair_core.specs.Names.{Name, Piece, Fits}
 use Rattle.pair_core.specs.Core.{Slot, Home}
 use Rattle.pair_core.specs.Steps.{mark, lays_piece, left_of}
 use Rattle.pair_core.specs.Moves.{Move, LayPiece, MayLay, IsAllowed, after, lays}
@@ -26,6 +26,7 @@ use Rattle.pair_core.specs.declared.view.Pending.{Pending}
 use Rattle.pair_core.proofs.Facts.{put_here, put_else}
 use Rattle.slot_rows.specs.Lists.{Every}
 use Rattle.slot_rows.proofs.Acts.{stocked, stocked_here, stocked_else, stocked_length}
+use Rattle.pair_rule.specs.Addresses.{address}
 use Rattle.pair_rule.specs.Buf.{Buf}
 use Rattle.pair_rule.specs.Rule.{At, Shown, slot_number, cell_length, Stands, Agrees, IsMarked, Rule}
 use Rattle.pair_rule.specs.Views as view
@@ -216,7 +217,7 @@ module _ {T : Type 0} (may : T → ℕ → ℕ → ℕ → Type 0) (key : Key T)
 
     pub lays_home : (id : ℕ) (d : View) → get_elem? s.views id ≡ some d → d.standing ≡ Seated → d.number ≡ n
         → Held may key record {
-          words = set s.words (number G (Piece place i)) (bit_or (c.word (Piece place i)) (2 ^ (x.partition - first_part G i)));
+          words = set s.words (address G (Piece place i)) (bit_or (c.word (Piece place i)) (2 ^ (x.partition - first_part G i)));
           homes = homes';
           views = set s.views id (record (view.saw (Piece place i) (bit_or (c.word (Piece place i)) (2 ^ (x.partition - first_part G i))) d) { pending = left_of G i x });
         } c'
@@ -235,9 +236,9 @@ module _ {T : Type 0} (may : T → ℕ → ℕ → ℕ → Type 0) (key : Key T)
   -- the lay of a claim that pends, of buffers that are filled with their parts of the mark
   pub lay_leads : (s : At) (r : Rule may key s) (id : ℕ) (d : View) (n p i v : ℕ) (x : Pending) (b : List ℕ) (xs : List Buf) → get_elem? s.views id ≡ some d → d.standing ≡ Seated → MayMake d (LayPiece n p i)
       → d.pending ≡ Some x → Contains d.marks (mark x.round p b) → length xs ≡ after_shared G p i - first_shared G p i → AreCuts G x.round b (first_shared G p i) xs
-      → v ≡ get_or s.words (number G (Piece (x.round % G.depth) i)) 0
+      → v ≡ get_or s.words (address G (Piece (x.round % G.depth) i)) 0
       → Held may key record {
-        words = set s.words (number G (Piece (x.round % G.depth) i)) (bit_or v (2 ^ (p - first_part G i)));
+        words = set s.words (address G (Piece (x.round % G.depth) i)) (bit_or v (2 ^ (p - first_part G i)));
         homes = stocked s.homes (slot_number G (x.round % G.depth) (first_shared G p i)) (map Some xs);
         views = set s.views id (view.laid i x (bit_or v (2 ^ (p - first_part G i))) d);
       } (after G r.core (LayPiece n p i))
@@ -254,12 +255,12 @@ module _ {T : Type 0} (may : T → ℕ → ℕ → ℕ → Type 0) (key : Key T)
       let word : r.core.word y ≡ v = sym (found ∙ r.words y fits) in
       let w : bit_or (r.core.word y) (2 ^ (x.partition - first_part G i)) ≡ bit_or v (2 ^ (p - first_part G i)) = (λ q. bit_or (word q) (2 ^ (may_lay.partition q - first_part G i))) in
       let P : ℕ × Shape → Type 0 = λ z. Held may key record {
-        words = set s.words (number G y) z.0;
+        words = set s.words (address G y) z.0;
         homes = stocked s.homes (slot_number G (x.round % G.depth) (first_shared G p i)) (map Some xs);
         views = set s.views id (record (view.saw (Piece (x.round % z.1.depth) i) z.0 d) { pending = left_of z.1 i x });
       } (after G r.core (LayPiece n p i)) in
       subst P (λ q. (w q, sym a.geometry q)) (subst (λ (z : Shown). Held may key record {
-        words = set s.words (number G y) (bit_or (r.core.word y) (2 ^ (x.partition - first_part G i)));
+        words = set s.words (address G y) (bit_or (r.core.word y) (2 ^ (x.partition - first_part G i)));
         homes = stocked s.homes (slot_number G (x.round % G.depth) (first_shared G p i)) (map Some xs);
         views = set s.views id (record (view.saw y (bit_or (r.core.word y) (2 ^ (x.partition - first_part G i))) d) { pending = left_of G i x });
       } z) (sym is) led)

@@ -1,4 +1,5 @@
 pub mod Core
+pub mod Addresses
 pub mod Bridge
 pub mod Sides
 pub mod Allowed

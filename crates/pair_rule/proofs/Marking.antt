@@ -14,7 +14,7 @@ use Rattle.atomic_table.proofs.Lists.{exchanged}
 use Rattle.part_geometry.specs.Shape.{Shape}
 use Rattle.part_geometry.specs.Pieces.{pieces, first_part, Touches}
 use Rattle.part_tables.specs.Parts.{first_sent, first_shared}
-use Rattle.pair_core.specs.Names.{Name, Claim, Piece, Fits, number}
+use Rattle.pair_core.specs.Names.{Name, Claim, Piece, Fits}
 use Rattle.pair_core.specs.Core.{has}
 use Rattle.pair_core.specs.Reading.{laid}
 use Rattle.pair_core.specs.Steps.{mark}
@@ -23,6 +23,7 @@ use Rattle.pair_core.specs.declared.view.Pending.{Pending}
 use Rattle.pair_core.proofs.Facts.{bit_lt, later_refl}
 use Rattle.slot_rows.specs.Lists.{row}
 use Rattle.slot_rows.proofs.Acts.{takes_row, gives_row, cleared, stocked, taking_carries, taking_homes, taking_valid, giving_valid, giving_drops, giving_part_homes}
+use Rattle.pair_rule.specs.Addresses.{address}
 use Rattle.pair_rule.specs.Buf.{Buf}
 use Rattle.pair_rule.specs.Views as view
 use Rattle.pair_rule.specs.Rule.{At, Shown, slot_number, Rule, Holds, MayMark}
@@ -56,11 +57,11 @@ module _ {T : Type 0} (may : T → ℕ → ℕ → ℕ → Type 0) (key : Key T)
 
   pub claim_allowed : (slots id shown p new a i y : ℕ) (d : View) (held : List (ℕ × Option Buf)) (b : List ℕ) → d.standing ≡ Seated → d.geometry ≡ G → MayMake d (TryClaim d.number p b)
       → view.seen d (Claim (p / 32)) ≡ shown → MayMark may key (round_in shown) p b → bit_or shown (2 ^ (p % 32)) ≡ new
-      → Allows (Holds may key) slots id (d, held) (number G (Claim (p / 32))) (λ n. either (eqb n shown) new n) (tries p b (step a i shown y none) (d, held))
+      → Allows (Holds may key) slots id (d, held) (address G (Claim (p / 32))) (λ n. either (eqb n shown) new n) (tries p b (step a i shown y none) (d, held))
   claim_allowed slots id shown p new a i y d held b live same h saw ok is s holds deep at small =
       let r = of_running may key L s holds id d at live in
-      let x : Name = Claim (p / 32) in let v : ℕ = get_or s.words (number G x) 0 in
-      let F : ℕ → Type 0 = λ z. (w : View) × (act : Act (Option Buf)) × Valid s.homes held act × Holds may key (stepped s (number G x) z id held w act)
+      let x : Name = Claim (p / 32) in let v : ℕ = get_or s.words (address G x) 0 in
+      let F : ℕ → Type 0 = λ z. (w : View) × (act : Act (Option Buf)) × Valid s.homes held act × Holds may key (stepped s (address G x) z id held w act)
       × tries p b (step a i shown y none) (d, held) v (w, carried_after held act) in
       exchanged v shown new F
       (λ e.
@@ -69,8 +70,8 @@ module _ {T : Type 0} (may : T → ℕ → ℕ → ℕ → Type 0) (key : Key T)
       let k : ℕ = slot_number G (round_in shown % G.depth) (first_sent G p) in
       let w : View = view.claimed (round_in shown) p b (bit_or shown (2 ^ (p % 32))) d in
       let home : cleared s.homes k (sent_count G p) ≡ homes_after s.homes held (takes_row k zs) = sym (taking_homes s.homes held k zs ∙ ap (cleared s.homes k) (length-map ys Some ∙ l.1)) in
-      let rule : Rule may key (stepped s (number G x) new id held w (takes_row k zs)) =
-      subst (λ (z : ℕ × List (maybe.Option (Option Buf))). Rule may key record { words = set s.words (number G x) z.0; homes = z.1; views = set s.views id w }) (λ j. (is j, home j)) l.4.0 in
+      let rule : Rule may key (stepped s (address G x) new id held w (takes_row k zs)) =
+      subst (λ (z : ℕ × List (maybe.Option (Option Buf))). Rule may key record { words = set s.words (address G x) z.0; homes = z.1; views = set s.views id w }) (λ j. (is j, home j)) l.4.0 in
       let out : (carried_after held (takes_row k zs) ≡ row (slot_number d.geometry (round_in shown % d.geometry.depth) (first_sent d.geometry p)) zs ++ held) × (length ys ≡ sent_count d.geometry p) × AreLong d.geometry (first_sent d.geometry p) ys =
       subst (λ (z : Shape). (carried_after held (takes_row k zs) ≡ row (slot_number z (round_in shown % z.depth) (first_sent z p)) zs ++ held) × (length ys ≡ sent_count z p) × AreLong z (first_sent z p) ys) (sym same)
       (taking_carries k zs held, l.1, l.3) in
@@ -82,18 +83,18 @@ module _ {T : Type 0} (may : T → ℕ → ℕ → ℕ → Type 0) (key : Key T)
   pub lay_allowed : (slots id k p i one a j u y : ℕ) (d : View) (held : List (ℕ × Option Buf)) → d.standing ≡ Seated → d.geometry ≡ G
       → IsFilled k p i d (slot_number d.geometry (k % d.geometry.depth) (first_shared d.geometry p i)) (values held)
       → held ≡ row (slot_number d.geometry (k % d.geometry.depth) (first_shared d.geometry p i)) (values held) → 2 ^ (p - first_part d.geometry i) ≡ one
-      → Allows (Holds may key) slots id (d, held) (number G (Piece (k % G.depth) i)) (λ n. bit_or n one) (lays p i (step a j u y none) (d, held))
+      → Allows (Holds may key) slots id (d, held) (address G (Piece (k % G.depth) i)) (λ n. bit_or n one) (lays p i (step a j u y none) (d, held))
   lay_allowed slots id k p i one a j u y d held live same f stands is s holds deep at small =
       let r = of_running may key L s holds id d at live in
       let x : Pending = f.pending in let xs : List Buf = f.bufs in let zs : List (Option Buf) = map Some xs in
-      let v : ℕ = get_or s.words (number G (Piece (k % G.depth) i)) 0 in
+      let v : ℕ = get_or s.words (address G (Piece (k % G.depth) i)) 0 in
       let m : ℕ = length zs in
       let first : ℕ = slot_number G (k % G.depth) (first_shared G p i) in
       let led = lay_leads may key L s r id d d.number p i v x f.bytes xs at live (refl, (x, f.pends, f.lays)) f.pends
       (subst (λ (z : ℕ). Contains d.marks (mark z p f.bytes)) (sym f.round) f.marked)
       (f.count ∙ ap (λ (z : Shape). shared_count z p i) same)
       (subst (λ (z : ℕ × Shape). AreCuts z.1 z.0 f.bytes (first_shared z.1 p i) xs) (λ q. (sym f.round q, same q)) f.cuts)
-      (ap (λ (z : ℕ). get_or s.words (number G (Piece (z % G.depth) i)) 0) (sym f.round)) in
+      (ap (λ (z : ℕ). get_or s.words (address G (Piece (z % G.depth) i)) 0) (sym f.round)) in
       let w : View = view.laid i x (bit_or v (2 ^ (p - first_part d.geometry i))) d in
       let in_row : held ≡ row first (zs ++ f.others) ++ [] =
       stands ∙ ((λ q. row (slot_number (same q) (k % (same q).depth) (first_shared (same q) p i)) (f.slots q)) ∙ sym (append-nil (row first (zs ++ f.others)))) in
@@ -101,8 +102,8 @@ module _ {T : Type 0} (may : T → ℕ → ℕ → ℕ → Type 0) (key : Key T)
       ap (λ (z : ℕ). stocked s.homes (slot_number G (z % G.depth) (first_shared G p i)) zs) f.round
       ∙ (sym (giving_part_homes s.homes first zs f.others []) ∙ ap (λ (z : List (ℕ × Option Buf)). homes_after s.homes z (gives_row m)) (sym in_row)) in
       let bits : 2 ^ (p - first_part G i) ≡ 2 ^ (p - first_part d.geometry i) = ap (λ (z : Shape). 2 ^ (p - first_part z i)) (sym same) in
-      let rule : Rule may key (stepped s (number G (Piece (k % G.depth) i)) (bit_or v one) id held w (gives_row m)) =
-      subst (λ (z : ℕ × ℕ × List (maybe.Option (Option Buf)) × ℕ). Rule may key record { words = set s.words (number G (Piece (z.0 % G.depth) i)) (bit_or v z.1); homes = z.2; views = set s.views id (view.laid i x (bit_or v z.3) d) })
+      let rule : Rule may key (stepped s (address G (Piece (k % G.depth) i)) (bit_or v one) id held w (gives_row m)) =
+      subst (λ (z : ℕ × ℕ × List (maybe.Option (Option Buf)) × ℕ). Rule may key record { words = set s.words (address G (Piece (z.0 % G.depth) i)) (bit_or v z.1); homes = z.2; views = set s.views id (view.laid i x (bit_or v z.3) d) })
       (λ q. (f.round q, (bits ∙ is) q, home q, bits q)) led.0 in
       let gone : carried_after held (gives_row m) ≡ drop (shared_count d.geometry p i) held = giving_drops m held ∙ ap (λ (z : ℕ). drop z held) (length-map xs Some ∙ f.count) in
       let after : as_seat (w, carried_after held (gives_row m)) ≡ as_seat (w, drop (shared_count d.geometry p i) held) = (λ q. (w, gone q)) in
@@ -119,8 +120,8 @@ module _ {T : Type 0} (may : T → ℕ → ℕ → ℕ → Type 0) (key : Key T)
     where
       -- the word found is of the claim's round, lacks the partition, and is the one that was seen, or later
       tells : (s : At) (r : Rule may key s) (id : ℕ) (d : View) → get_elem? s.views id ≡ some d → d.standing ≡ Seated → (k p i : ℕ) (x : Pending) → d.pending ≡ Some x → x.round ≡ k → d.geometry ≡ G → MayLay d.geometry x p i
-          → (round_in (get_or s.words (number G (Piece (k % G.depth) i)) 0) ≡ x.round) × (laid d.geometry (get_or s.words (number G (Piece (k % G.depth) i)) 0) i p ≡ 0)
-          × IsLater (view.seen d (Piece (x.round % d.geometry.depth) i)) (get_or s.words (number G (Piece (k % G.depth) i)) 0)
+          → (round_in (get_or s.words (address G (Piece (k % G.depth) i)) 0) ≡ x.round) × (laid d.geometry (get_or s.words (address G (Piece (k % G.depth) i)) 0) i p ≡ 0)
+          × IsLater (view.seen d (Piece (x.round % d.geometry.depth) i)) (get_or s.words (address G (Piece (k % G.depth) i)) 0)
       tells s r id d at live k p i x pends round same may_lay =
           let c : Shown = r.core in let a' = r.seats id d at live in
           let lay : MayLay G x p i = subst (λ (z : Shape). MayLay z x p i) same may_lay in
@@ -130,17 +131,17 @@ module _ {T : Type 0} (may : T → ℕ → ℕ → ℕ → Type 0) (key : Key T)
           let all : c.send.pieces ≡ pieces G = r.sound.progress.opens_last (omega arith) in
           let piece = lay.piece in
           let fits : Fits G (Piece (k % G.depth) i) = (place_there k G.depth r.shape.depth.0, piece) in
-          let word : get_or s.words (number G (Piece (k % G.depth) i)) 0 ≡ c.word (Piece (c.send.round % G.depth) i) = r.words (Piece (k % G.depth) i) fits ∙ ap (λ (z : ℕ). c.word (Piece (z % G.depth) i)) now in
+          let word : get_or s.words (address G (Piece (k % G.depth) i)) 0 ≡ c.word (Piece (c.send.round % G.depth) i) = r.words (Piece (k % G.depth) i) fits ∙ ap (λ (z : ℕ). c.word (Piece (z % G.depth) i)) now in
           let touch : Touches G i x.partition = subst (Touches G i) (sym lay.partition) lay.touches in
           let missing : laid G (c.word (Piece (c.send.round % G.depth) i)) i x.partition ≡ 0 =
           no_bit (has x.laid i) (laid G (c.word (Piece (c.send.round % G.depth) i)) i x.partition) lay.missing
           (bit_lt (c.word (Piece (c.send.round % G.depth) i)) (x.partition - first_part G i)) ((is.laid i piece touch).1) in
           let y : Name = Piece (k % G.depth) i in
           let seen = seen_same G r.shape c r.alone r.markers r.watchers r.seat id d a' y fits in
-          let later : IsLater (view.seen d y) (get_or s.words (number G y) 0) =
+          let later : IsLater (view.seen d y) (get_or s.words (address G y) 0) =
           subst (λ (z : ℕ × ℕ). IsLater z.0 z.1) (λ q. (sym seen q, sym (r.words y fits) q))
           (r.sound.seen.present d.number y (unspent G r.shape c r.alone r.markers r.watchers r.seat id d a' d.number refl) fits) in (
             ap round_in word ∙ (r.sound.pieces.current i (omega arith) ∙ sym is.round),
             (λ q. laid (same q) (word q) i (sym lay.partition q)) ∙ missing,
-            subst (λ (z : ℕ × Shape). IsLater (view.seen d (Piece (z.0 % z.1.depth) i)) (get_or s.words (number G y) 0)) (λ q. (sym round q, sym same q)) later,
+            subst (λ (z : ℕ × Shape). IsLater (view.seen d (Piece (z.0 % z.1.depth) i)) (get_or s.words (address G y) 0)) (λ q. (sym round q, sym same q)) later,
           )

@@ -13,7 +13,7 @@ use Rattle.part_geometry.specs.Cells.{cells, recv_of}
 use Rattle.part_tables.specs.Parts.{first_received}
 use Rattle.part_tables.specs.Bytes.{cell_bytes}
 use Rattle.part_tables.proofs.Facts.{in_received, first_received-le, first_received-mono}
-use Rattle.pair_core.specs.Names.{Name, Return, Fits, number}
+use Rattle.pair_core.specs.Names.{Name, Return, Fits}
 use Rattle.pair_core.specs.Core.{Slot, Home}
 use Rattle.pair_core.specs.Steps.{saw, returns_part}
 use Rattle.pair_core.specs.Moves.{Move, ReturnPart, LayPiece, IsAllowed, after}
@@ -21,6 +21,7 @@ use Rattle.pair_core.specs.Facts.{piece_word, IsKept, BringsHome}
 use Rattle.pair_core.specs.declared.view.RecvSide.{RecvSide}
 use Rattle.slot_rows.specs.Lists.{Every}
 use Rattle.slot_rows.proofs.Acts.{stocked, stocked_here, stocked_else, stocked_length}
+use Rattle.pair_rule.specs.Addresses.{address}
 use Rattle.pair_rule.specs.Buf.{Buf}
 use Rattle.pair_rule.specs.Rule.{At, Shown, slot_number, cell_length, Stands, Agrees, Rule}
 use Rattle.pair_rule.specs.Views as view
@@ -173,7 +174,7 @@ module _ {T : Type 0} (may : T → ℕ → ℕ → ℕ → Type 0) (key : Key T)
 
     pub returns_home : (id : ℕ) (d : View) → get_elem? s.views id ≡ some d → d.standing ≡ Seated → d.number ≡ 1
         → Held may key record {
-          words = set s.words (number G (Return (q / 32))) (bit_or (c.word (Return (q / 32))) (2 ^ (q % 32)));
+          words = set s.words (address G (Return (q / 32))) (bit_or (c.word (Return (q / 32))) (2 ^ (q % 32)));
           homes = homes';
           views = set s.views id (view.given_back q (bit_or (c.word (Return (q / 32))) (2 ^ (q % 32))) d);
         } c'
@@ -190,9 +191,9 @@ module _ {T : Type 0} (may : T → ℕ → ℕ → ℕ → Type 0) (key : Key T)
 
   -- the return of a partition whose buffers have the receiver's round and their cells' lengths
   pub return_leads : (s : At) (r : Rule may key s) (id : ℕ) (d : View) (q v : ℕ) (ys : List Buf) → get_elem? s.views id ≡ some d → d.standing ≡ Seated → MayMake d (ReturnPart q)
-      → length ys ≡ first_received G (q + 1) - first_received G q → AreOf G d.recv.round (first_received G q) ys → v ≡ get_or s.words (number G (Return (q / 32))) 0
+      → length ys ≡ first_received G (q + 1) - first_received G q → AreOf G d.recv.round (first_received G q) ys → v ≡ get_or s.words (address G (Return (q / 32))) 0
       → Held may key record {
-        words = set s.words (number G (Return (q / 32))) (bit_or v (2 ^ (q % 32)));
+        words = set s.words (address G (Return (q / 32))) (bit_or v (2 ^ (q % 32)));
         homes = stocked s.homes (slot_number G (d.recv.round % G.depth) (first_received G q)) (map Some ys);
         views = set s.views id (view.given_back q (bit_or v (2 ^ (q % 32))) d);
       } (after G r.core (ReturnPart q))
@@ -204,7 +205,7 @@ module _ {T : Type 0} (may : T → ℕ → ℕ → ℕ → Type 0) (key : Key T)
       let now : d.recv.round ≡ r.core.recv.round = ap (λ (z : RecvSide). z.round) (a.recv_is h.0) in
       let led = returns_home s r q ys allowed size (subst (λ (z : ℕ). AreOf G z (first_received G q) ys) now all) id d at live h.0 in
       subst (λ (z : ℕ × ℕ). Held may key record {
-        words = set s.words (number G x) (bit_or z.0 (2 ^ (q % 32)));
+        words = set s.words (address G x) (bit_or z.0 (2 ^ (q % 32)));
         homes = stocked s.homes (slot_number G (z.1 % G.depth) (first_received G q)) (map Some ys);
         views = set s.views id (view.given_back q (bit_or z.0 (2 ^ (q % 32))) d);
       } (after G r.core (ReturnPart q))) (λ i. (word i, sym now i)) led

@@ -8,11 +8,12 @@ use Rattle.atomic_table.specs.Table.{Step, keeps, Allows}
 use Rattle.part_geometry.specs.Shape.{Shape}
 use Rattle.part_geometry.specs.Pieces.{pieces}
 use Rattle.pair_core.specs.Words.{empty}
-use Rattle.pair_core.specs.Names.{Name, Claim, Release, Take, Return, Piece, Fits, number, claim_words, take_words}
+use Rattle.pair_core.specs.Names.{Name, Claim, Release, Take, Return, Piece, Fits, claim_words, take_words}
 use Rattle.pair_core.specs.Steps.{wrote, loads, enters}
 use Rattle.pair_core.specs.Moves.{Move, StorePiece, StoreClaim, LoadClaim, LoadPiece, LoadRelease, ShutClaim, LayPiece, StoreReturn, StoreTake, StoreRelease, after}
 use Rattle.pair_core.specs.declared.view.SendSide.{SendSide}
 use Rattle.pair_core.specs.declared.view.RecvSide.{RecvSide}
+use Rattle.pair_rule.specs.Addresses.{address}
 use Rattle.pair_rule.specs.Buf.{Buf}
 use Rattle.pair_rule.specs.Rule.{At, Shown, Rule, Holds}
 use Rattle.pair_rule.specs.Views as view
@@ -36,11 +37,11 @@ module _ {T : Type 0} (may : T → ℕ → ℕ → ℕ → Type 0) (key : Key T)
   -- a step that moves no slot may be made, where it leads to a state of the core
   pub going : (slots id : ℕ) (d : View) (held : List (ℕ × Option Buf)) (x : Name) (f found : ℕ → ℕ) (view : ℕ → View → View) (tells : ℕ → View → Type 0) (st : Step (Option Buf)) → d.standing ≡ Seated
       → ((s : At) (r : Rule may key s) → get_elem? s.views id ≡ some d
-      → (c' : Shown) × Held may key (stepped_to may key L s x (f (get_or s.words (number key.geometry x) 0)) id (view (found (get_or s.words (number key.geometry x) 0)) d)) c'
-      × tells (found (get_or s.words (number key.geometry x) 0)) d)
-      → Allows (Holds may key) slots id (d, held) (number key.geometry x) f (λ n. goes view tells st (d, held) (found n))
+      → (c' : Shown) × Held may key (stepped_to may key L s x (f (get_or s.words (address key.geometry x) 0)) id (view (found (get_or s.words (address key.geometry x) 0)) d)) c'
+      × tells (found (get_or s.words (address key.geometry x) 0)) d)
+      → Allows (Holds may key) slots id (d, held) (address key.geometry x) f (λ n. goes view tells st (d, held) (found n))
   going slots id d held x f found view tells st live leads s h deep at small =
-      let l = leads s (of_running s h id d at live) at in (view (found (get_or s.words (number key.geometry x) 0)) d, keeps, tt, inl l.1.0, (refl, l.2))
+      let l = leads s (of_running s h id d at live) at in (view (found (get_or s.words (address key.geometry x) 0)) d, keeps, tt, inl l.1.0, (refl, l.2))
 
   module _ (s : At) (r : Rule may key s) (id : ℕ) (d : View) (at : get_elem? s.views id ≡ some d) (live : d.standing ≡ Seated) where
     -- the send side's stores
@@ -64,7 +65,7 @@ module _ {T : Type 0} (may : T → ℕ → ℕ → ℕ → Type 0) (key : Key T)
         subst (λ (z : ℕ). Held may key (stepped_to may key L s (Claim c) (empty k) id (record (view.saw (Claim c) z d) { send = record d.send { opened = c + 1 } })) (after key.geometry r.core (StoreClaim k c))) (sym word) led
 
     -- its shut
-    pub shut_claim_leads : (c v : ℕ) → v ≡ get_or s.words (number key.geometry (Claim c)) 0 → MayMake d (ShutClaim c)
+    pub shut_claim_leads : (c v : ℕ) → v ≡ get_or s.words (address key.geometry (Claim c)) 0 → MayMake d (ShutClaim c)
         → Held may key (stepped_to may key L s (Claim c) (bit_or v (2 ^ 32)) id (view.shut_claim c (bit_or v (2 ^ 32)) d)) (after key.geometry r.core (ShutClaim c))
     shut_claim_leads c v found h =
         let a = r.seats id d at live in
@@ -103,7 +104,7 @@ module _ {T : Type 0} (may : T → ℕ → ℕ → ℕ → Type 0) (key : Key T)
         subst (λ (z : ℕ). Held may key (stepped_to may key L s Release (empty k) id (record (view.saw Release z d) { recv = record d.recv { released = 1 } })) (after key.geometry r.core (StoreRelease k))) (sym (ap empty (sym here))) led
 
     -- a look: the word found is v
-    look_leads : (m : Move (List ℕ)) (x : Name) (v : ℕ) → v ≡ get_or s.words (number key.geometry x) 0 → Fits key.geometry x → MayMake d m
+    look_leads : (m : Move (List ℕ)) (x : Name) (v : ℕ) → v ≡ get_or s.words (address key.geometry x) 0 → Fits key.geometry x → MayMake d m
         → after key.geometry r.core m ≡ loads d.number x r.core → ((n p i : ℕ) → m ≢ LayPiece n p i)
         → Held may key (stepped_to may key L s x v id (view.saw x v d)) (after key.geometry r.core m) × Learns d x v
     look_leads m x v found fits h is other =
@@ -123,14 +124,14 @@ module _ {T : Type 0} (may : T → ℕ → ℕ → ℕ → Type 0) (key : Key T)
         ap (λ (z : ℕ). loads z x (enters z r.core)) (sym e) ∙ ap (loads d.number x) (L.facts.enters_live r.core d.number a.live)
 
     -- the looks
-    pub load_claim_leads : (n c v : ℕ) → v ≡ get_or s.words (number key.geometry (Claim c)) 0 → MayMake d (LoadClaim n c)
+    pub load_claim_leads : (n c v : ℕ) → v ≡ get_or s.words (address key.geometry (Claim c)) 0 → MayMake d (LoadClaim n c)
         → Held may key (stepped_to may key L s (Claim c) v id (view.saw (Claim c) v d)) (after key.geometry r.core (LoadClaim n c)) × Learns d (Claim c) v
     load_claim_leads n c v found h = look_leads (LoadClaim n c) (Claim c) v found (subst (λ (z : Shape). c < claim_words z) (r.seats id d at live).geometry h.1) h (entered n (Claim c) h.0) (λ j p i e. absurd (cc))
 
-    pub load_piece_leads : (n e i v : ℕ) → v ≡ get_or s.words (number key.geometry (Piece e i)) 0 → MayMake d (LoadPiece n e i)
+    pub load_piece_leads : (n e i v : ℕ) → v ≡ get_or s.words (address key.geometry (Piece e i)) 0 → MayMake d (LoadPiece n e i)
         → Held may key (stepped_to may key L s (Piece e i) v id (view.saw (Piece e i) v d)) (after key.geometry r.core (LoadPiece n e i)) × Learns d (Piece e i) v
     load_piece_leads n e i v found h = look_leads (LoadPiece n e i) (Piece e i) v found (subst (λ (z : Shape). (e < z.depth) × (i < pieces z)) (r.seats id d at live).geometry (h.1, h.2)) h (entered n (Piece e i) h.0) (λ j p k q. absurd (cc))
 
-    pub load_release_leads : (v : ℕ) → v ≡ get_or s.words (number key.geometry Release) 0 → MayMake d LoadRelease
+    pub load_release_leads : (v : ℕ) → v ≡ get_or s.words (address key.geometry Release) 0 → MayMake d LoadRelease
         → Held may key (stepped_to may key L s Release v id (view.saw Release v d)) (after key.geometry r.core LoadRelease) × Learns d Release v
     load_release_leads v found h = look_leads LoadRelease Release v found tt h (ap (λ (z : ℕ). loads z Release r.core) (sym h)) (λ j p i e. absurd (cc))

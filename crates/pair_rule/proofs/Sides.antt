@@ -3,12 +3,13 @@ use Rattle.std.proofs.Common.{◌≡◌, ◌≢◌, ℕ, Bool, List, get_or, set
 use mathlib.Core.Option.{some}
 use lib.ListN.{get_elem?}
 use Rattle.part_geometry.specs.Shape.{Shape}
-use Rattle.pair_core.specs.Names.{Name, Fits, number, put_word}
+use Rattle.pair_core.specs.Names.{Name, Fits, put_word}
 use Rattle.pair_core.specs.Steps.{saw, wrote, loads}
 use Rattle.pair_core.specs.Moves.{Move, LayPiece, after}
 use Rattle.pair_core.specs.declared.view.SendSide.{SendSide}
 use Rattle.pair_core.specs.declared.view.RecvSide.{RecvSide}
 use Rattle.pair_core.proofs.Facts.{any_word}
+use Rattle.pair_rule.specs.Addresses.{address}
 use Rattle.pair_rule.specs.Steps.{MayMake}
 use Rattle.pair_rule.proofs.Allowed.{may_make}
 use Rattle.pair_rule.specs.Rule.{At, Shown, Agrees, Rule}
@@ -107,7 +108,7 @@ module _ (g : Shape) (c : Shown) (alone : Bool) (markers watchers : ℕ) (seat :
 module _ {T : Type 0} (may : T → ℕ → ℕ → ℕ → Type 0) (key : Key T) (L : CoreLaws key.geometry) where
   -- the table after a step that takes or gives no slot
   abbrev pub stepped_to : At → Name → ℕ → ℕ → View → At
-  stepped_to s x w id d' = record { words = set s.words (number key.geometry x) w; homes = s.homes; views = set s.views id d' }
+  stepped_to s x w id d' = record { words = set s.words (address key.geometry x) w; homes = s.homes; views = set s.views id d' }
 
   -- the send side steps: its side becomes as `side` says
   pub sends : (s : At) (r : Rule may key s) (id : ℕ) (d : View) (m : Move (List ℕ)) (name : Shape → Name) (w : ℕ) (side : SendSide → SendSide)
@@ -145,7 +146,7 @@ module _ {T : Type 0} (may : T → ℕ → ℕ → ℕ → Type 0) (key : Key T)
 
   -- a seat looks at the word x, and finds it as it is
   pub looks : (s : At) (r : Rule may key s) (id : ℕ) (d : View) (m : Move (List ℕ)) (x : Name) (w : ℕ)
-      → get_elem? s.views id ≡ some d → d.standing ≡ Seated → Fits key.geometry x → MayMake d m → w ≡ get_or s.words (number key.geometry x) 0
+      → get_elem? s.views id ≡ some d → d.standing ≡ Seated → Fits key.geometry x → MayMake d m → w ≡ get_or s.words (address key.geometry x) 0
       → after key.geometry r.core m ≡ loads d.number x r.core → ((n p i : ℕ) → m ≢ LayPiece n p i)
       → Held may key (stepped_to s x w id (view.saw x w d)) (after key.geometry r.core m)
   looks s r id d m x w at live fits may_make_it found is other =

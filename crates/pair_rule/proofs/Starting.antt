@@ -26,7 +26,7 @@ use Rattle.pair_core.proofs.Cut.{cell_piece, take_word}
 use Rattle.pair_core.proofs.Start.{piece_full, part_there}
 use Rattle.pair_core.proofs.StateNumbers.{row_lt}
 use Rattle.pair_rule.specs.Buf.{Buf}
-use Rattle.pair_rule.specs.First.{first_words, first_buf, first_bufs, first_view, receiver}
+use Rattle.pair_rule.specs.First.{first_table, first_buf, first_bufs, first_view, receiver}
 use Rattle.pair_rule.specs.Parts.{first_lane, first_lanes}
 use Rattle.pair_rule.specs.Seats.{AreLanes, IsLane}
 use Rattle.pair_rule.specs.Rule.{slot_number, cell_length, Agrees, Holds}
@@ -34,7 +34,7 @@ use Rattle.pair_rule.specs.declared.view.View.{View}
 use Rattle.pair_rule.specs.declared.view.Standing.TheVariants.{Told, Closed}
 use Rattle.pair_rule.specs.declared.rule.Key.{Key}
 use Rattle.pair_rule.proofs.Core.{CoreLaws}
-use Rattle.pair_rule.proofs.FirstFacts.{first_words-length, first_words-at}
+use Rattle.pair_rule.proofs.FirstFacts.{first_words-length, first_words-at, first_table-length, first_table-has}
 
 pub first_bufs-length : (g : Shape) → length (first_bufs g) ≡ g.depth * cells g
 unfolding first_bufs
@@ -80,7 +80,7 @@ module _ {T : Type 0} (may : T → ℕ → ℕ → ℕ → Type 0) (key : Key T)
     watchers_is = λ z. refl;
   }
 
-  pub starts : CoreLaws G → IsShape G → Holds may key (opening (first_words G) (first_bufs G) (first_view G))
+  pub starts : CoreLaws G → IsShape G → Holds may key (opening (first_table G) (first_bufs G) (first_view G))
   starts L v =
       let d : View = first_view G in
       let homes = map some (first_bufs G) in
@@ -97,9 +97,9 @@ module _ {T : Type 0} (may : T → ℕ → ℕ → ℕ → Type 0) (key : Key T)
         bytes = λ k p. [];
         shape = v;
         sound = L.first;
-        size = first_words-length G;
+        size = first_table-length G;
         room = length-map (first_bufs G) some ∙ first_bufs-length G;
-        words = λ x fits. first_words-at G x v fits;
+        words = first_table-has G;
         slots = λ e c deep inside. (first_buf G (slot_number G e c), at e c deep inside, refl, long e c inside);
         kept = λ e c b deep inside home kept one. let none = (piece_full G v e (piece_of G c) (cell_piece G c inside)).round in absurd (omega arith);
         seats = λ i f is alive. let o = only_first d f i is in

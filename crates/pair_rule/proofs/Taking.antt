@@ -13,7 +13,7 @@ use Rattle.part_geometry.specs.Cells.{cells, start, end, send_of, recv_of}
 use Rattle.part_tables.specs.Parts.{first_received}
 use Rattle.part_tables.specs.Bytes.{bytes_between, byte_at, cell_bytes, part_bytes}
 use Rattle.part_tables.proofs.Facts.{in_received, first_received-le, first_received-mono, start-first_received, received-row, bytes_between-append, length-bytes_between, get_or-bytes_between, length-cell_bytes, length-part_bytes, cell-inside, byte_in}
-use Rattle.pair_core.specs.Names.{Name, Take, Fits, number}
+use Rattle.pair_core.specs.Names.{Name, Take, Fits}
 use Rattle.pair_core.specs.Core.{Slot, Home, Out}
 use Rattle.pair_core.specs.Steps.{mark, saw, takes_part, put_slots}
 use Rattle.pair_core.specs.Moves.{TakePart, IsAllowed, after}
@@ -22,6 +22,7 @@ use Rattle.pair_core.specs.declared.view.Mark.{Mark}
 use Rattle.pair_core.specs.declared.view.RecvSide.{RecvSide}
 use Rattle.slot_rows.specs.Lists.{Every}
 use Rattle.slot_rows.proofs.Acts.{cleared, cleared_here, cleared_else, cleared_length, Stand, gathered, every_weaker}
+use Rattle.pair_rule.specs.Addresses.{address}
 use Rattle.pair_rule.specs.Buf.{Buf}
 use Rattle.pair_rule.specs.Rule.{At, Shown, slot_number, cell_length, Stands, Agrees, MayStand, Rule}
 use Rattle.pair_rule.specs.Views as view
@@ -232,7 +233,7 @@ module _ {T : Type 0} (may : T → ℕ → ℕ → ℕ → Type 0) (key : Key T)
 
     pub takes_out : (id : ℕ) (d : View) → get_elem? s.views id ≡ some d → d.standing ≡ Seated → d.number ≡ 1 → w ≡ part_bytes G bytes q
         → Held may key record {
-          words = set s.words (number G (Take (q / 32))) (bit_or (c.word (Take (q / 32))) (2 ^ (q % 32)));
+          words = set s.words (address G (Take (q / 32))) (bit_or (c.word (Take (q / 32))) (2 ^ (q % 32)));
           homes = cleared s.homes (slot_number G place first) count;
           views = set s.views id (view.taken q w (bit_or (c.word (Take (q / 32))) (2 ^ (q % 32))) d);
         } (takes_part G q w c)
@@ -260,13 +261,13 @@ module _ {T : Type 0} (may : T → ℕ → ℕ → ℕ → Type 0) (key : Key T)
     pub long : length with ≡ G.recv_bytes
     pub may_stand : MayStand may key.tag k (q * G.recv_bytes) with
     pub led : Held may key record {
-      words = set s.words (number G (Take (q / 32))) (bit_or v (2 ^ (q % 32)));
+      words = set s.words (address G (Take (q / 32))) (bit_or v (2 ^ (q % 32)));
       homes = cleared s.homes (slot_number G (k % G.depth) (first_received G q)) (first_received G (q + 1) - first_received G q);
       views = set s.views id (view.taken q with (bit_or v (2 ^ (q % 32))) d);
     } (after G c (TakePart q with))
 
   pub take_leads : (s : At) (r : Rule may key s) (id : ℕ) (d : View) (q v : ℕ) → get_elem? s.views id ≡ some d → d.standing ≡ Seated → MayMake d (TakePart q [])
-      → v ≡ get_or s.words (number G (Take (q / 32))) 0 → Takes s id d q v d.recv.round r.core
+      → v ≡ get_or s.words (address G (Take (q / 32))) 0 → Takes s id d q v d.recv.round r.core
   take_leads s r id d q v at live h found =
       let a = r.seats id d at live in let x : Name = Take (q / 32) in
       let w : List ℕ = part_bytes G (r.bytes r.core.recv.round) q in
@@ -287,7 +288,7 @@ module _ {T : Type 0} (may : T → ℕ → ℕ → ℕ → Type 0) (key : Key T)
         long = length-part_bytes G (r.bytes r.core.recv.round) q;
         may_stand = may_stand s r q w allowed;
         led = subst (λ (z : ℕ). Held may key record {
-          words = set s.words (number G x) (bit_or z (2 ^ (q % 32)));
+          words = set s.words (address G x) (bit_or z (2 ^ (q % 32)));
           homes = cleared s.homes (slot_number G (r.core.recv.round % G.depth) (first_received G q)) (first_received G (q + 1) - first_received G q);
           views = set s.views id (view.taken q w (bit_or z (2 ^ (q % 32))) d);
         } (after G r.core (TakePart q w))) word led;

@@ -9,13 +9,15 @@ use Rattle.gate_word.specs.Words.{word_of}
 use Rattle.pair_core.specs.Names.{claim_words, take_words}
 use Rattle.pair_core.specs.Moves.{part_mask, first_state}
 use Rattle.pair_core.specs.State.{word_count}
+use Rattle.pair_rule.specs.Addresses.{table_size}
 use Rattle.pair_rule.specs.Buf.{Buf, buf}
 use Rattle.pair_rule.specs.Rule.{cell_length}
 use Rattle.pair_rule.specs.Views.{told}
+use Rattle.pair_rule.specs.declared.TheConstants.{FREE_WORDS}
 use Rattle.pair_rule.specs.declared.view.View.{View}
 use Rattle.pair_rule.specs.declared.view.Standing.TheVariants.{Seated, Told, Spent, Closed}
 
--- the word with a number before the first step: claim words, the release word, take words, return words, and the
+-- the word of a number before the first step: claim words, the release word, take words, return words, and the
 -- piece words of each place
 abbrev pub first_at : Shape → ℕ → ℕ
 first_at g n =
@@ -30,6 +32,22 @@ first_at g n =
 -- the words before the first step, in order
 unfoldable pub first_words : Shape → List ℕ
 first_words g = map (first_at g) (range_with_len 0 (word_count g))
+
+-- the word at a place of the table before the first step, where a free word before a row has the first one of the row
+abbrev pub first_in_table : Shape → ℕ → ℕ
+first_in_table g n =
+    if nat_lt n (FREE_WORDS + claim_words g) then word_of 0 true (part_mask g.send_parts (n - FREE_WORDS)) else (
+    if nat_lt n (2 * FREE_WORDS + claim_words g + 1) then word_of 0 false 0 else (
+    if nat_lt n (3 * FREE_WORDS + claim_words g + 1 + take_words g)
+    then word_of 0 false (part_mask g.recv_parts (n - (3 * FREE_WORDS + claim_words g + 1))) else (
+    if nat_lt n (4 * FREE_WORDS + claim_words g + 1 + 2 * take_words g)
+    then word_of 0 false (part_mask g.recv_parts (n - (4 * FREE_WORDS + claim_words g + 1 + take_words g))) else
+    word_of 0 false (need g
+    ((n - (4 * FREE_WORDS + claim_words g + 1 + 2 * take_words g)) % (pieces g + FREE_WORDS) - FREE_WORDS)))))
+
+-- the words of the table before the first step, in order
+unfoldable pub first_table : Shape → List ℕ
+first_table g = map (first_in_table g) (range_with_len 0 (table_size g))
 
 -- the buffer with a number before the first step: of round 0, with as many zeros as its cell has bytes
 abbrev pub first_buf : Shape → ℕ → Buf

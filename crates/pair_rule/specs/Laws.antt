@@ -7,12 +7,13 @@ use lib.ListN.{get_elem?}
 use Rattle.gate_word.specs.Words.{round_in}
 use Rattle.part_geometry.specs.Shape.{Shape}
 use Rattle.part_tables.specs.Parts.{first_received, first_shared}
-use Rattle.pair_core.specs.Names.{Claim, number}
+use Rattle.pair_core.specs.Names.{Claim}
 use Rattle.pair_core.specs.Core.{times}
 use Rattle.pair_core.specs.Steps.{mark}
 use Rattle.pair_core.specs.Moves.{Move, TryClaim, LayPiece, TakePart, ReturnPart, after}
 use Rattle.pair_core.specs.declared.view.Mark.{Mark}
 use Rattle.pair_core.specs.declared.view.Pending.{Pending}
+use Rattle.pair_rule.specs.Addresses.{address}
 use Rattle.pair_rule.specs.Buf.{Buf}
 use Rattle.pair_rule.specs.Rule.{At, Rule, MayMark}
 use Rattle.pair_rule.specs.Views.{seen}
@@ -106,7 +107,7 @@ round_slot g d q = first_slot g (d.recv.round % g.depth) q
 
 -- the claim word of partition p in the table, and as the seat has last seen it
 abbrev pub claim_word : Shape → At → ℕ → ℕ
-claim_word g s p = slice_index s.words (number g (Claim (p / 32)))
+claim_word g s p = slice_index s.words (address g (Claim (p / 32)))
 
 abbrev pub seen_claim : View → ℕ → ℕ
 seen_claim d p = seen d (Claim (p / 32))

@@ -15,6 +15,7 @@ use Rattle.pair_core.specs.Core.{Core, Slot, Home, Out, IsMarker, IsWatcher, is_
 use Rattle.pair_core.specs.Moves.{first_word, first_state}
 use Rattle.pair_core.specs.Sound.{Sound}
 use Rattle.pair_core.specs.State.{word_count, ListsWords}
+use Rattle.pair_rule.specs.Addresses.{address, table_size, HasWords}
 use Rattle.pair_core.specs.Facts.{piece_word, IsKept}
 use Rattle.pair_core.specs.declared.view.Mark.{Mark}
 use Rattle.pair_core.specs.declared.view.Life.TheVariants.{Blank, Live}
@@ -111,9 +112,9 @@ module _ {T : Type 0} (may : T → ℕ → ℕ → ℕ → Type 0) where
     pub bytes : ℕ → ℕ → List ℕ
     pub shape : IsShape key.geometry
     pub sound : Sound key.geometry core
-    pub size : length s.words ≡ word_count key.geometry
+    pub size : length s.words ≡ table_size key.geometry
     pub room : length s.homes ≡ key.geometry.depth * cells key.geometry
-    pub words : ListsWords key.geometry s.words core.word
+    pub words : HasWords key.geometry s.words core.word
     pub slots : (d c : ℕ) → d < key.geometry.depth → c < cells key.geometry
         → Stands key.geometry c (get_elem? s.homes (slot_number key.geometry d c)) (core.slot d c)
     -- a buffer that is home and has the round of its piece's word has the bytes marked in that round
@@ -155,14 +156,14 @@ module _ {T : Type 0} (may : T → ℕ → ℕ → ℕ → Type 0) where
 
   -- the sides' rounds stand in claim word 0 and in the release word
   pub record AreCounted (key : Key T) (words : List ℕ) (d : View) : Type 0 where
-    pub sent : round_in (slice_index words (number key.geometry (Claim 0))) ≡ d.send.round
-    pub received : round_in (slice_index words (number key.geometry Release)) ≡ d.recv.round
+    pub sent : round_in (slice_index words (address key.geometry (Claim 0))) ≡ d.send.round
+    pub received : round_in (slice_index words (address key.geometry Release)) ≡ d.recv.round
 
   -- the table of a pair that was closed: no seat steps any more
   pub record Ended (key : Key T) (s : At) : Type 0 where
     pub over : (i : ℕ) (d : View) → get_elem? s.views i ≡ some d → d.standing ≢ Seated
     pub shape : IsShape key.geometry
-    pub size : length s.words ≡ word_count key.geometry
+    pub size : length s.words ≡ table_size key.geometry
     pub whole : (i : ℕ) (d : View) → get_elem? s.views i ≡ some d → d.standing ≡ Closed → IsWhole key d
     pub counted : (i : ℕ) (d : View) → get_elem? s.views i ≡ some d → d.standing ≡ Closed → AreCounted key s.words d
 

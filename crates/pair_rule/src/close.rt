@@ -13,7 +13,7 @@ use crate::content::Content;
 use crate::pair::Pair;
 use crate::seats::{RecvSeat, SendSeat};
 use crate::view::View;
-use crate::words::release_word;
+use crate::words::{claim_word, release_word};
 use atomic_table::{Badge, Join, Split};
 use gate_word::round_of;
 use part_geometry::Geometry;
@@ -132,7 +132,7 @@ impl<C: Content> Pair<C> {
             .join_seat::<TakesInReceiver>(&mut place, recv.into_place());
         let kept = table.shared.split_seat::<Keeps>(&mut place);
         let closed = table.close_with(place);
-        let sent = round_of(closed.word(0));
+        let sent = round_of(closed.word(claim_word(&tables, 0)));
         let received = round_of(closed.word(release_word(&tables)));
         let geometry = tables.geometry();
         let pieces_out = u64::from(sent) * tables.pieces() as u64;

@@ -5,7 +5,7 @@ ghost use Rattle.pair_rule.specs.First.{first_view, in_company, receiver};
 ghost use Rattle.pair_rule.specs.Parts.{first_lanes, first_shelves};
 
 use crate::content::Content;
-use crate::first::{first_bufs, first_words};
+use crate::first::{first_bufs, first_table};
 use crate::pair::Pair;
 use crate::rule::Key;
 use crate::seats::{RecvSeat, SendSeat};
@@ -51,7 +51,7 @@ impl<C: Content> Pair<C> {
         let tables = Tables::new(alloc, geometry)?;
         let lanes = lay_lanes(alloc, &tables)?;
         let shelves = lay_shelves(alloc, &tables)?;
-        let words = first_words(alloc, &tables)?;
+        let words = first_table(alloc, &tables)?;
         let bufs = first_bufs(alloc, &tables)?;
         let key = Key { geometry, tag };
         let made = Table::new(alloc, &words, bufs, &key);

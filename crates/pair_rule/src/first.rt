@@ -4,11 +4,12 @@ ghost use Rattle.part_geometry.specs.declared.TheConstants.{MAX_PARTS};
 ghost use Rattle.std.specs.Prelude.{◌≡◌, ◌+◌, ◌*◌, ◌-◌, ◌%◌, ◌<◌, ◌≤◌, ◌^◌, true, IfOk, replicate};
 ghost use Rattle.part_geometry.specs.Cells.{cells};
 ghost use Rattle.pair_core.specs.Moves.{part_mask};
-ghost use Rattle.pair_core.specs.State.{word_count};
+ghost use Rattle.pair_rule.specs.Addresses.{table_size};
 ghost use Rattle.pair_rule.specs.Buf.{buf};
-ghost use Rattle.pair_rule.specs.First.{first_at, first_words, first_buf, first_bufs};
+ghost use Rattle.pair_rule.specs.First.{first_in_table, first_table, first_buf, first_bufs};
 ghost use Rattle.pair_rule.specs.Rule.{cell_length};
 
+use crate::FREE_WORDS;
 use crate::buf::CellBuf;
 use crate::words::{claim_words, take_words};
 use gate_word::pack;
@@ -32,39 +33,39 @@ fn part_bits(parts: u32, c: usize) -> u32
     low_bits((parts - 32 * c as u32).min(32))
 }
 
-/// The word with a number.
+/// The word at a place of the table.
 fn first_word_at(tables: &Tables, n: usize) -> u64
-    requires { n < word_count tables.now }
-    ensures { result ≡ first_at tables.now n }
+    requires { n < table_size tables.now }
+    ensures { result ≡ first_in_table tables.now n }
 {
     let geometry = tables.geometry();
     let claims = claim_words(tables);
     let takes = take_words(tables);
-    if n < claims {
-        return pack(0, true, part_bits(geometry.send_parts(), n));
+    if n < FREE_WORDS + claims {
+        let c = n.saturating_sub(FREE_WORDS);
+        return pack(0, true, part_bits(geometry.send_parts(), c));
     }
-    if n < claims + 1 {
+    if n < 2 * FREE_WORDS + claims + 1 {
         return pack(0, false, 0);
     }
-    if n < claims + 1 + takes {
-        let t = n - (claims + 1);
+    if n < 3 * FREE_WORDS + claims + 1 + takes {
+        let t = n.saturating_sub(3 * FREE_WORDS + claims + 1);
         return pack(0, false, part_bits(geometry.recv_parts(), t));
     }
-    if n < claims + 1 + 2 * takes {
-        let t = n - (claims + 1 + takes);
+    if n < 4 * FREE_WORDS + claims + 1 + 2 * takes {
+        let t = n.saturating_sub(4 * FREE_WORDS + claims + 1 + takes);
         return pack(0, false, part_bits(geometry.recv_parts(), t));
     }
-    let i = (n - (claims + 1 + 2 * takes)) % tables.pieces();
-    pack(0, false, tables.need(i))
+    let i = (n - (4 * FREE_WORDS + claims + 1 + 2 * takes)) % (tables.pieces() + FREE_WORDS);
+    pack(0, false, tables.need(i.saturating_sub(FREE_WORDS)))
 }
 
-/// The words, by number.
-pub(crate) fn first_words(alloc: Global, tables: &Tables) -> Result<Vec<u64>, AllocError>
-    ensures { IfOk result (λ words. words.items ≡ first_words tables.now) }
+/// The words of the table, in order.
+pub(crate) fn first_table(alloc: Global, tables: &Tables) -> Result<Vec<u64>, AllocError>
+    ensures { IfOk result (λ words. words.items ≡ first_table tables.now) }
 {
-    let geometry = tables.geometry();
-    let pieces = geometry.depth() as usize * tables.pieces();
-    let count = claim_words(tables) + 1 + 2 * take_words(tables) + pieces;
+    let rows = tables.geometry().depth() as usize * (tables.pieces() + FREE_WORDS);
+    let count = 5 * FREE_WORDS + claim_words(tables) + 1 + 2 * take_words(tables) + rows;
     let mut words = Vec::with_capacity(alloc, count)?;
     for n in 0..count {
         words.push(first_word_at(tables, n))?;

@@ -32,3 +32,7 @@ pub use rule::{Key, Ruled};
 pub use seats::{MarkSeat, Note, RecvSeat, SendSeat, Shelf, WatchSeat};
 pub use slot_rows::Lane;
 pub use view::{Standing, View};
+
+/// How many words are free between two rows of the table. They fill two cache lines of 64 bytes, since processors fetch
+/// lines by twos.
+pub(crate) const FREE_WORDS: usize = 16;

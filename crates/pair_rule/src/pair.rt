@@ -2,7 +2,7 @@
 
 ghost use Rattle.std.specs.Prelude.{◌≡◌};
 ghost use Rattle.part_geometry.specs.Shape.{IsShape};
-ghost use Rattle.pair_core.specs.State.{word_count};
+ghost use Rattle.pair_rule.specs.Addresses.{table_size};
 
 use crate::buf::CellBuf;
 use crate::content::Content;
@@ -28,7 +28,7 @@ impl<C: Content> Model for Pair<C> {
     ghost use Rattle.std.specs.Prelude.{◌≡◌, ◌*◌};
     ghost use Rattle.part_geometry.specs.Shape.{IsShape};
     ghost use Rattle.part_geometry.specs.Cells.{cells};
-    ghost use Rattle.pair_core.specs.State.{word_count};
+    ghost use Rattle.pair_rule.specs.Addresses.{table_size};
     ghost use Rattle.pair_rule.specs.Seats.{PairOf};
 
     ghost Value = { PairOf C.Tag };
@@ -36,7 +36,7 @@ impl<C: Content> Model for Pair<C> {
     ghost view = { λ p. record { table = p.table.shared.table_id; key = p.table.shared.key } };
 
     ghost invariant = { λ p. (p.tables ≡ p.table.shared.key.geometry) × IsShape p.table.shared.key.geometry
-        × (p.table.shared.table_id.words ≡ word_count p.table.shared.key.geometry)
+        × (p.table.shared.table_id.words ≡ table_size p.table.shared.key.geometry)
         × (p.table.shared.table_id.slots ≡ p.table.shared.key.geometry.depth * cells p.table.shared.key.geometry) };
 }
 
@@ -60,7 +60,7 @@ impl<C: Content> Pair<C> {
     pub(crate) fn into_parts(self) -> (Top<C>, Tables)
         ensures parts { (result.0.shared.table_id ≡ self.table) × (result.0.shared.key ≡ self.key)
             × (result.1 ≡ self.key.geometry) }
-        ensures limits { IsShape self.key.geometry × (self.table.words ≡ word_count self.key.geometry) }
+        ensures limits { IsShape self.key.geometry × (self.table.words ≡ table_size self.key.geometry) }
     {
         let Pair { table, tables } = self;
         (table, tables)

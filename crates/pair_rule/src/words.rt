@@ -1,14 +1,15 @@
-//! The numbers of the words of a pair.
+//! Where the words of a pair stand in its table.
 
 ghost use Rattle.std.specs.Prelude.{◌≡◌, ◌<◌, ◌≤◌, ◌^◌};
 ghost use Rattle.part_geometry.specs.Pieces.{pieces};
-ghost use Rattle.pair_core.specs.Names.{Claim, Release, Take, Return, Piece, claim_words, take_words, number};
+ghost use Rattle.pair_core.specs.Names.{Claim, Release, Take, Return, Piece, claim_words, take_words};
 ghost use Rattle.pair_core.specs.Words.{empty};
 ghost use Rattle.part_geometry.specs.declared.TheConstants.{LAST_ROUND};
-ghost use Rattle.pair_core.specs.State.{word_count};
 ghost use Rattle.part_geometry.specs.Cells.{cells};
+ghost use Rattle.pair_rule.specs.Addresses.{address, table_size};
 ghost use Rattle.pair_rule.specs.Rule.{slot_number};
 
+use crate::FREE_WORDS;
 use gate_word::pack;
 use part_tables::Tables;
 
@@ -28,55 +29,56 @@ pub(crate) fn take_words(tables: &Tables) -> usize
     (tables.geometry().recv_parts() as usize).div_ceil(32)
 }
 
-/// The number of claim word `c`.
+/// Where claim word `c` stands.
 pub(crate) fn claim_word(tables: &Tables, c: usize) -> usize
     requires { c < claim_words tables.now }
-    ensures value { result ≡ number tables.now (Claim c) }
-    ensures inside { result < word_count tables.now }
+    ensures value { result ≡ address tables.now (Claim c) }
+    ensures inside { result < table_size tables.now }
 {
     // The geometry's limits, for the proof.
     let _geometry = tables.geometry();
-    c
+    FREE_WORDS + c
 }
 
-/// The number of the release word.
+/// Where the release word stands.
 pub(crate) fn release_word(tables: &Tables) -> usize
-    ensures value { result ≡ number tables.now Release }
-    ensures inside { result < word_count tables.now }
+    ensures value { result ≡ address tables.now Release }
+    ensures inside { result < table_size tables.now }
 {
-    claim_words(tables)
+    2 * FREE_WORDS + claim_words(tables)
 }
 
-/// The number of take word `t`.
+/// Where take word `t` stands.
 pub(crate) fn take_word(tables: &Tables, t: usize) -> usize
     requires { t < take_words tables.now }
-    ensures value { result ≡ number tables.now (Take t) }
-    ensures inside { result < word_count tables.now }
+    ensures value { result ≡ address tables.now (Take t) }
+    ensures inside { result < table_size tables.now }
 {
     // The geometry's limits, for the proof.
     let _geometry = tables.geometry();
-    claim_words(tables) + 1 + t
+    3 * FREE_WORDS + claim_words(tables) + 1 + t
 }
 
-/// The number of return word `t`.
+/// Where return word `t` stands.
 pub(crate) fn return_word(tables: &Tables, t: usize) -> usize
     requires { t < take_words tables.now }
-    ensures value { result ≡ number tables.now (Return t) }
-    ensures inside { result < word_count tables.now }
+    ensures value { result ≡ address tables.now (Return t) }
+    ensures inside { result < table_size tables.now }
 {
-    claim_words(tables) + 1 + take_words(tables) + t
+    4 * FREE_WORDS + claim_words(tables) + 1 + take_words(tables) + t
 }
 
-/// The number of the word of piece `i` at a place.
+/// Where the word of piece `i` at a place stands.
 pub(crate) fn piece_word(tables: &Tables, place: usize, i: usize) -> usize
     requires place { place < tables.now.depth }
     requires piece { i < pieces tables.now }
-    ensures value { result ≡ number tables.now (Piece place i) }
-    ensures inside { result < word_count tables.now }
+    ensures value { result ≡ address tables.now (Piece place i) }
+    ensures inside { result < table_size tables.now }
 {
     // The geometry's limits, for the proof.
     let _geometry = tables.geometry();
-    claim_words(tables) + 1 + 2 * take_words(tables) + (place * tables.pieces() + i)
+    let row = tables.pieces() + FREE_WORDS;
+    5 * FREE_WORDS + claim_words(tables) + 1 + 2 * take_words(tables) + (place * row + i)
 }
 
 /// The number of the slot of cell `cell` at a place; or the one behind the place's last.

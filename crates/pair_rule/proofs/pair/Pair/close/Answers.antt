@@ -1,10 +1,11 @@
-use Rattle.std.proofs.Common.{rules, ◌≡◌, ◌*◌, ℕ, List, [], ◌∷◌, get_or, ap, ◌∙◌, sym, subst}
+use Rattle.std.proofs.Common.{rules, ◌≡◌, ◌*◌, [], ◌∷◌, get_or, ap, ◌∙◌, sym, subst}
 use Rattle.std.specs.Mem.Slots.{slots_items}
 use Rattle.atomic_table.specs.Table.{Joins}
 use Rattle.gate_word.specs.Words.{round_in}
 use Rattle.part_geometry.specs.Shape.{Shape}
 use Rattle.part_geometry.specs.Pieces.{pieces}
-use Rattle.pair_core.specs.Names.{Release, number}
+use Rattle.pair_core.specs.Names.{Claim, Release}
+use Rattle.pair_rule.specs.Addresses.{address}
 use Rattle.pair_rule.specs.Rule.{IsWhole, Holds}
 use Rattle.pair_rule.specs.First.{closed, spent}
 use Rattle.pair_rule.specs.Seats.{rounds_of, rounds_in}
@@ -48,9 +49,10 @@ returns-clause-record g c =
     let told = told_whole g.C.Content.may key' f.0 c.split_seat-kept.new.seat.id v f.1.0 f.1.1 (ap (λ (d : View). d.standing) v_is) in
     let words = slots_items c.close_with-closed.result.words in
     let tables : c.into_parts-table.result.1 ≡ key.geometry = parts.2 in
-    let place : c.release_word.result ≡ number key'.geometry Release = c.release_word.ensures.value ∙ ap (λ (z : Shape). number z Release) (tables ∙ sym (ap (λ k. k.geometry) parts.1)) in
+    let place : c.release_word.result ≡ address key'.geometry Release = c.release_word.ensures.value ∙ ap (λ (z : Shape). address z Release) (tables ∙ sym (ap (λ k. k.geometry) parts.1)) in
+    let first : c.claim_word.result ≡ address key'.geometry (Claim 0) = c.claim_word.ensures.value ∙ ap (λ (z : Shape). address z (Claim 0)) (tables ∙ sym (ap (λ k. k.geometry) parts.1)) in
     let sent : c.round_of-sent.result ≡ c.args.send.view.send.round = c.round_of-sent.ensures.value
-    ∙ (ap round_in (sym (index_at words 0 c.word.result c.word.ensures)) ∙ (ap (λ (z : List ℕ). round_in (get_or z 0 0)) (sym f.2) ∙ (told.1.sent ∙ ap (λ (d : View). d.send.round) v_is))) in
+    ∙ (ap round_in (sym (index_at words c.claim_word.result c.word.result c.word.ensures)) ∙ ((λ i. round_in (get_or (sym f.2 i) (first i) 0)) ∙ (told.1.sent ∙ ap (λ (d : View). d.send.round) v_is))) in
     let received : c.round_of-received.result ≡ c.args.recv.view.recv.round = c.round_of-received.ensures.value
     ∙ (ap round_in (sym (index_at words c.release_word.result c.word-2.result c.word-2.ensures)) ∙ ((λ i. round_in (get_or (sym f.2 i) (place i) 0)) ∙ (told.1.received ∙ ap (λ (d : View). d.recv.round) v_is))) in
     let kept : c.split_seat-kept.result.me.0 ≡ both = ap (λ m. m.0) c.split_seat-kept.ensures.4 ∙ is in

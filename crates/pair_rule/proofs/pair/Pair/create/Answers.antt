@@ -3,9 +3,9 @@ use Rattle.std.proofs.lemmas.List.FromFn.{length-map-range_with_len}
 use Rattle.atomic_table.specs.Table.{opening, Me}
 use Rattle.part_geometry.specs.Shape.{Shape, IsShape}
 use Rattle.part_geometry.specs.Cells.{cells}
-use Rattle.pair_core.specs.State.{word_count}
+use Rattle.pair_rule.specs.Addresses.{table_size}
 use Rattle.pair_rule.specs.Buf.{Buf}
-use Rattle.pair_rule.specs.First.{first_words, first_bufs, first_view, in_company, receiver}
+use Rattle.pair_rule.specs.First.{first_table, first_bufs, first_view, in_company, receiver}
 use Rattle.pair_rule.specs.Parts.{first_lanes, first_shelves, first_shelf}
 use Rattle.pair_rule.specs.Rule.{Holds}
 use Rattle.pair_rule.specs.Seats.{AreLanes}
@@ -13,7 +13,7 @@ use Rattle.pair_rule.specs.declared.rule.Key.{Key}
 use Rattle.pair_rule.specs.declared.view.View.{View}
 use Rattle.pair_rule.specs.declared.view.Standing.TheVariants.{Seated}
 use Rattle.pair_rule.proofs.Core.{laws}
-use Rattle.pair_rule.proofs.FirstFacts.{first_words-length}
+use Rattle.pair_rule.proofs.FirstFacts.{first_table-length}
 use Rattle.pair_rule.proofs.Splitting.{receiver_splits}
 use Rattle.pair_rule.proofs.Starting.{starts, first_bufs-length, first_are_lanes}
 use Rattle.pair_rule.proofs.SendViews.{IsSending, first_send}
@@ -24,7 +24,7 @@ new-made-requires g c =
     let key : Key g.row.C-Tag.Denot = record { geometry = c.args.geometry; tag = c.args.tag } in
     let same = c.in_ok-tables.ensures in
     let shape : IsShape key.geometry = subst IsShape (c.tables.view_is ∙ same) c.tables.invariant.shape in
-    let words : c.deref.result.now ≡ first_words key.geometry = c.deref.ensures.value ∙ (c.in_ok-words.ensures ∙ ap first_words same) in
+    let words : c.deref.result.now ≡ first_table key.geometry = c.deref.ensures.value ∙ (c.in_ok-words.ensures ∙ ap first_table same) in
     let bufs : c.in_ok-bufs.bufs.items ≡ first_bufs key.geometry = c.in_ok-bufs.ensures ∙ ap first_bufs same in
     subst (λ (z : List ℕ × List (Option Buf)). Holds g.C.Content.may key (opening z.0 z.1 (first_view key.geometry)))
     (λ j. (sym words j, sym bufs j)) (starts g.C.Content.may key (laws key.geometry shape) shape)
@@ -35,8 +35,8 @@ split_seat-recv-requires g c =
     let key = c.in-Ok.table.shared.key in
     let same = c.in_ok-tables.ensures in
     let shape : IsShape key.geometry = subst IsShape (c.tables.view_is ∙ (same ∙ sym (ap (λ (z : Key g.row.C-Tag.Denot). z.geometry) made.5))) c.tables.invariant.shape in
-    let words : length c.deref.result.now ≡ word_count c.args.geometry =
-    ap length (c.deref.ensures.value ∙ (c.in_ok-words.ensures ∙ ap first_words same)) ∙ first_words-length c.args.geometry in (
+    let words : length c.deref.result.now ≡ table_size c.args.geometry =
+    ap length (c.deref.ensures.value ∙ (c.in_ok-words.ensures ∙ ap first_table same)) ∙ first_table-length c.args.geometry in (
       made.2,
       omega (arith, made.0),
       receiver_splits g.C.Content.may key (laws key.geometry shape) c.in-Ok.send.id c.in-Ok.send.me.0
@@ -71,6 +71,6 @@ invariant_of-result g c =
     let G = c.args.geometry in
     let back : G ≡ c.in-Ok.table.shared.key.geometry = sym (ap (λ (z : Key g.row.C-Tag.Denot). z.geometry) made.5) in
     let shape : IsShape G = subst IsShape (c.tables.view_is ∙ same) c.tables.invariant.shape in
-    let words : length c.deref.result.now ≡ word_count G = ap length (c.deref.ensures.value ∙ (c.in_ok-words.ensures ∙ ap first_words same)) ∙ first_words-length G in
+    let words : length c.deref.result.now ≡ table_size G = ap length (c.deref.ensures.value ∙ (c.in_ok-words.ensures ∙ ap first_table same)) ∙ first_table-length G in
     let bufs : length c.in_ok-bufs.bufs.items ≡ G.depth * cells G = ap length (c.in_ok-bufs.ensures ∙ ap first_bufs same) ∙ first_bufs-length G in
-    (same ∙ back, subst IsShape back shape, made.0 ∙ (words ∙ ap word_count back), made.1 ∙ (bufs ∙ ap (λ (z : Shape). z.depth * cells z) back))
+    (same ∙ back, subst IsShape back shape, made.0 ∙ (words ∙ ap table_size back), made.1 ∙ (bufs ∙ ap (λ (z : Shape). z.depth * cells z) back))

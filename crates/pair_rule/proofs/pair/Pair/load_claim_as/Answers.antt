@@ -2,8 +2,9 @@ use Rattle.std.proofs.Common.{◌≡◌, ℕ, ◌<◌, get_or, refl, sym, ap, �
 use mathlib.Core.Option.{none}
 use Rattle.atomic_table.specs.Table.{step}
 use Rattle.part_geometry.specs.Shape.{Shape}
-use Rattle.pair_core.specs.Names.{Name, Claim, number, claim_words}
+use Rattle.pair_core.specs.Names.{Name, Claim, claim_words}
 use Rattle.pair_core.specs.Moves.{LoadClaim, after}
+use Rattle.pair_rule.specs.Addresses.{address}
 use Rattle.pair_rule.specs.Views as view
 use Rattle.pair_rule.specs.Rule.{At}
 use Rattle.pair_rule.specs.Told.{Learns}
@@ -21,7 +22,7 @@ load-requires g c =
     let w : ℕ = c.args.word in let seat = c.args.seat.now in let d : View = seat.me.0 in
     let same_shape : d.geometry ≡ key.geometry = c.requires.pair.1 ∙ sym (ap (λ p. p.key.geometry) c.self.view_is) in
     let X : Shape → Name = λ z. Claim w in
-    let found : At → ℕ = λ s. get_or s.words (number key.geometry (X key.geometry)) 0 in
+    let found : At → ℕ = λ s. get_or s.words (address key.geometry (X key.geometry)) 0 in
     asked may key c.self.inside.tables t.table_id c.args.self.now c.self.invariant.0 c.self.invariant.2 c.self.view_is c.self.invariant.1 seat.table_id seat.id seat.me X c.claim_word-index.result
     (λ n. n) (λ n. n) (λ n e. view.saw (Claim g.X.Numbers.one) n e) (λ n e. Learns e (Claim g.X.Numbers.one) n) (step t.table_id.slots c.claim_word-index.result 0 0 none)
     c.requires.pair c.requires.live c.claim_word-index.ensures.value (subst (λ (z : Shape). w < claim_words z) same_shape c.requires.word)

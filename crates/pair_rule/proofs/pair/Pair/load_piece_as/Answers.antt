@@ -3,8 +3,9 @@ use mathlib.Core.Option.{none}
 use Rattle.atomic_table.specs.Table.{step}
 use Rattle.part_geometry.specs.Shape.{Shape}
 use Rattle.part_geometry.specs.Pieces.{pieces}
-use Rattle.pair_core.specs.Names.{Name, Piece, number}
+use Rattle.pair_core.specs.Names.{Name, Piece}
 use Rattle.pair_core.specs.Moves.{LoadPiece, after}
+use Rattle.pair_rule.specs.Addresses.{address}
 use Rattle.pair_rule.specs.Views as view
 use Rattle.pair_rule.specs.Rule.{At}
 use Rattle.pair_rule.specs.Told.{Learns}
@@ -22,7 +23,7 @@ load-requires g c =
     let e : ℕ = c.args.place in let i : ℕ = c.args.piece in let seat = c.args.seat.now in let d : View = seat.me.0 in
     let same_shape : d.geometry ≡ key.geometry = c.requires.pair.1 ∙ sym (ap (λ p. p.key.geometry) c.self.view_is) in
     let X : Shape → Name = λ z. Piece e i in
-    let found : At → ℕ = λ s. get_or s.words (number key.geometry (X key.geometry)) 0 in
+    let found : At → ℕ = λ s. get_or s.words (address key.geometry (X key.geometry)) 0 in
     asked may key c.self.inside.tables t.table_id c.args.self.now c.self.invariant.0 c.self.invariant.2 c.self.view_is c.self.invariant.1 seat.table_id seat.id seat.me X c.piece_word-index.result
     (λ n. n) (λ n. n) (λ n y. view.saw (Piece g.X.Numbers.one g.X.Numbers.two) n y) (λ n y. Learns y (Piece g.X.Numbers.one g.X.Numbers.two) n) (step t.table_id.slots c.piece_word-index.result 0 0 none)
     c.requires.pair c.requires.live c.piece_word-index.ensures.value (subst (λ (z : Shape). (e < z.depth) × (i < pieces z)) same_shape (c.requires.place, c.requires.piece))

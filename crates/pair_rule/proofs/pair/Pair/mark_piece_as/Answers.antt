@@ -3,9 +3,10 @@ use mathlib.Core.Option.{none}
 use Rattle.atomic_table.specs.Table.{step, Allows}
 use Rattle.part_geometry.specs.Shape.{Shape, IsShape}
 use Rattle.part_geometry.specs.Pieces.{pieces, first_part, Touches}
-use Rattle.pair_core.specs.Names.{Name, Piece, number}
+use Rattle.pair_core.specs.Names.{Name, Piece}
 use Rattle.pair_core.proofs.Cut.{touch_range}
 use Rattle.pair_core.proofs.Facts.{bit_small}
+use Rattle.pair_rule.specs.Addresses.{address}
 use Rattle.pair_rule.specs.Rule.{Holds}
 use Rattle.pair_rule.specs.Marking.{lays}
 use Rattle.pair_rule.specs.declared.view.View.{View}
@@ -42,7 +43,7 @@ fetch_or-requires g c =
     let tables : Shape = c.self.inside.tables in
     let same_shape : d.geometry ≡ key.geometry = c.requires.pair.1 ∙ sym (ap (λ q. q.key.geometry) c.self.view_is) in
     let X : Shape → Name = λ z. Piece (k % z.depth) i in
-    let at : index ≡ number tables (X tables) = c.piece_word-index.ensures.value ∙ ap (λ (z : ℕ). number tables (Piece z i)) c.place-place.ensures.value in
+    let at : index ≡ address tables (X tables) = c.piece_word-index.ensures.value ∙ ap (λ (z : ℕ). address tables (Piece z i)) c.place-place.ensures.value in
     let all = fitting may key tables t.table_id c.args.self.now c.self.invariant.0 c.self.invariant.2 c.self.view_is seat.table_id d X index c.requires.pair at
     (place_there k key.geometry.depth c.self.invariant.1.depth.0, subst (λ (z : Shape). i < pieces z) same_shape c.requires.filled.lays.piece) in
     let bit_is : 2 ^ (p - first_part d.geometry i) ≡ one =

@@ -1,11 +1,11 @@
 use Rattle.std.proofs.Common.{◌≡◌, ℕ, List, Option, Some, map, length, take, drop, ◌+◌, ◌<◌, ◌++◌, ◌^◌, ◌%◌, ◌/◌, bit_or, sym, ap, ◌∙◌, subst, arith, length-drop}
 use Rattle.part_geometry.specs.Shape.{Shape}
-use Rattle.pair_core.specs.Names.{Return, number}
-use Rattle.pair_core.specs.State.{word_count}
+use Rattle.pair_core.specs.Names.{Return}
 use Rattle.slot_rows.specs.Lists.{row, rotated}
 use Rattle.slot_rows.specs.Lanes.{wide, place}
 use Rattle.slot_rows.proofs.Lists.{around_out, head_at, rotated_length}
 use Rattle.slot_rows.proofs.Lanes.{wide_below}
+use Rattle.pair_rule.specs.Addresses.{address, table_size}
 use Rattle.pair_rule.specs.Buf.{Buf}
 use Rattle.pair_rule.specs.Views.{given_back}
 use Rattle.pair_rule.specs.Seats.{cells_of}
@@ -25,10 +25,10 @@ fetch_or-found-requires g c =
     let R : List (ℕ × Option Buf) = row (first_slot me.0.geometry (place_of me.0) q) (map Some h.0) in
     let turned : rotated at me.1 ≡ R ++ (drop (at + n) me.1 ++ take at me.1) = head_at me.1 R at n h.2 in (
       c.pass_to.ensures.seat.0 ∙ (c.requires.pair.0 ∙ ap (λ v. v.table) (sym c.self.view_is)),
-      subst (λ (z : ℕ). word.result < z) (ap word_count p.0 ∙ sym p.2) word.ensures.inside,
+      subst (λ (z : ℕ). word.result < z) (ap table_size p.0 ∙ sym p.2) word.ensures.inside,
       may_give_home g.C.Content.may table.key p.1 table.table_id.slots c.pass_to.new.seat.id me.0 c.requires.live q c.pass_to.new.seat.me h.0 (drop (at + n) me.1 ++ take at me.1)
           g.X.Numbers.one word.result c.one_bit-mask.result (c.pass_to.ensures.turned ∙ ap (λ (z : List (ℕ × Option Buf)). (me.0, z)) turned) c.requires.allowed h.1 h.3 c.requires.said
-          (word.ensures.value ∙ ap (λ (z : Shape). number z (Return (q / 32))) p.0) c.one_bit-mask.ensures,
+          (word.ensures.value ∙ ap (λ (z : Shape). address z (Return (q / 32))) p.0) c.one_bit-mask.ensures,
     )
 
 pub pass_from-requires-clause-here : goal.pass_from-requires-clause-here

@@ -2,8 +2,9 @@ use Rattle.std.proofs.Common.{◌≡◌, ℕ, ◌<◌, ◌^◌, get_or, bit_or, 
 use mathlib.Core.Option.{none}
 use Rattle.atomic_table.specs.Table.{step}
 use Rattle.part_geometry.specs.Shape.{Shape}
-use Rattle.pair_core.specs.Names.{Name, Claim, number, claim_words}
+use Rattle.pair_core.specs.Names.{Name, Claim, claim_words}
 use Rattle.pair_core.specs.Moves.{ShutClaim, after}
+use Rattle.pair_rule.specs.Addresses.{address}
 use Rattle.pair_rule.specs.Views as view
 use Rattle.pair_rule.specs.Rule.{At}
 use Rattle.pair_rule.specs.declared.view.View.{View}
@@ -20,7 +21,7 @@ fetch_or-requires g c =
     let w : ℕ = c.args.word in let seat = c.args.seat.now in let d : View = seat.me.0 in let h = c.requires.allowed in
     let same_shape : d.geometry ≡ key.geometry = c.requires.pair.1 ∙ sym (ap (λ p. p.key.geometry) c.self.view_is) in
     let X : Shape → Name = λ z. Claim w in
-    let found : At → ℕ = λ s. get_or s.words (number key.geometry (Claim w)) 0 in
+    let found : At → ℕ = λ s. get_or s.words (address key.geometry (Claim w)) 0 in
     asked may key c.self.inside.tables t.table_id c.args.self.now c.self.invariant.0 c.self.invariant.2 c.self.view_is c.self.invariant.1 seat.table_id seat.id seat.me X c.claim_word-index.result
     (λ n. bit_or n c.one_bit.result) (λ n. n) (λ n e. view.shut_claim g.X.Numbers.one (bit_or n (2 ^ 32)) e) (λ _ _. Unit {0}) (step t.table_id.slots c.claim_word-index.result c.one_bit.result 0 none)
     c.requires.pair c.requires.live c.claim_word-index.ensures.value (subst (λ (z : Shape). w < claim_words z) same_shape h.1)

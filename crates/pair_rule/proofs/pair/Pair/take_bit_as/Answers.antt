@@ -1,11 +1,11 @@
 use Rattle.std.proofs.Common.{◌≡◌, ℕ, List, Option, Some, map, length, drop, ◌+◌, ◌-◌, ◌<◌, ◌^◌, ◌%◌, ◌/◌, bit_or, sym, ap, ◌∙◌, subst, arith}
 use Rattle.part_geometry.specs.Shape.{Shape}
-use Rattle.pair_core.specs.Names.{Take, number}
-use Rattle.pair_core.specs.State.{word_count}
+use Rattle.pair_core.specs.Names.{Take}
 use Rattle.slot_rows.specs.Lists.{row, rotated}
 use Rattle.slot_rows.specs.Lanes.{wide, place}
 use Rattle.slot_rows.proofs.Lists.{put_in, rotated_length}
 use Rattle.slot_rows.proofs.Lanes.{wide_below, wide_split}
+use Rattle.pair_rule.specs.Addresses.{address, table_size}
 use Rattle.pair_rule.specs.Buf.{Buf}
 use Rattle.pair_rule.specs.Views.{taken}
 use Rattle.pair_rule.specs.Seats.{cells_of}
@@ -27,11 +27,11 @@ fetch_or-found-requires g c =
     let p = c.self.invariant in let table = c.self.inside.table.shared in let word = c.take_word-word in let me = c.args.seat.now.me in
     let tag = ap (λ v. v.key.tag) (sym c.self.view_is) in (
       c.pass_to.ensures.seat.0 ∙ (c.requires.pair.0 ∙ ap (λ v. v.table) (sym c.self.view_is)),
-      subst (λ (z : ℕ). word.result < z) (ap word_count p.0 ∙ sym p.2) word.ensures.inside,
+      subst (λ (z : ℕ). word.result < z) (ap table_size p.0 ∙ sym p.2) word.ensures.inside,
       may_take_out g.C.Content.may table.key p.1 table.table_id.slots c.pass_to.new.seat.id me.0 c.requires.live c.args.q c.pass_to.new.seat.me (rotated (place c.args.lanes.now c.args.q) me.1)
           g.X.Finds.may g.X.Finds.part word.result c.one_bit-mask.result c.pass_to.ensures.turned c.requires.allowed
           (λ k i b h. c.requires.may k i b (subst (λ z. g.C.Content.may z k i b) (sym tag) h)) c.requires.said
-          (word.ensures.value ∙ ap (λ (z : Shape). number z (Take (c.args.q / 32))) p.0) c.one_bit-mask.ensures,
+          (word.ensures.value ∙ ap (λ (z : Shape). address z (Take (c.args.q / 32))) p.0) c.one_bit-mask.ensures,
     )
 
 pub turn_times-requires : goal.turn_times-requires

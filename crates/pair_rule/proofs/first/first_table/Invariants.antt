@@ -1,0 +1,7 @@
+use Rattle.std.proofs.Common.{◌≡◌, map}
+use Rattle.std.specs.List.{range_with_len}
+use Rattle.pair_rule.specs.First.{first_in_table}
+use Rattle.pair_rule.proofs.first.first_table.Given as goal
+
+abbrev pub invariant-loop-n : goal.invariant-loop-n
+invariant-loop-n l = l.words.items ≡ map (first_in_table l.fn.tables) (range_with_len 0 l.n)

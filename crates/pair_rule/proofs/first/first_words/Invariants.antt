@@ -1,7 +1,0 @@
-use Rattle.std.proofs.Common.{◌≡◌, map}
-use Rattle.std.specs.List.{range_with_len}
-use Rattle.pair_rule.specs.First.{first_at}
-use Rattle.pair_rule.proofs.first.first_words.Given as goal
-
-abbrev pub invariant-loop-n : goal.invariant-loop-n
-invariant-loop-n l = l.words.items ≡ map (first_at l.fn.tables) (range_with_len 0 l.n)
