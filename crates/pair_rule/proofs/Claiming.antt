@@ -28,7 +28,7 @@ use Rattle.pair_core.proofs.Facts.{put_here, put_else, put_cases, put_pair_here,
 use Rattle.slot_rows.proofs.Acts.{cleared, cleared_here, cleared_else, cleared_length, Stand, gathered}
 use Rattle.pair_rule.specs.Addresses.{address}
 use Rattle.pair_rule.specs.Buf.{Buf}
-use Rattle.pair_rule.specs.Rule.{At, Shown, slot_number, cell_length, Stands, Agrees, MayMark, IsMarked, Rule}
+use Rattle.pair_rule.specs.Rule.{At, Shown, slot_number, slot_row, cell_length, Stands, Agrees, MayMark, IsMarked, Rule}
 use Rattle.pair_rule.specs.Views as view
 use Rattle.pair_rule.specs.Steps.{MayMake, AreLong}
 use Rattle.pair_rule.specs.declared.view.View.{View}
@@ -122,16 +122,16 @@ module _ {T : Type 0} (may : T → ℕ → ℕ → ℕ → Type 0) (key : Key T)
     -- the buffers that are home in its slots
     pub lent : (ys : List Buf) × (length ys ≡ count) × Stand s.homes (slot_number G place first) (map Some ys) × AreLong G first ys
     lent =
-        let P : ℕ → Buf → Type 0 = λ j y. (i : ℕ) → j ≡ place * cells G + i → length y.bytes ≡ cell_length G i in
+        let P : ℕ → Buf → Type 0 = λ j y. (i : ℕ) → j ≡ place * slot_row G + i → length y.bytes ≡ cell_length G i in
         let each : (j : ℕ) → slot_number G place first ≤ j → j < slot_number G place first + count → (y : Buf) × (get_elem? s.homes j ≡ some (some (Some y))) × P j y = λ j from to.
-        let i : ℕ = j - place * cells G in
-        let at : place * cells G + i ≡ j = omega arith in
+        let i : ℕ = j - place * slot_row G in
+        let at : place * slot_row G + i ≡ j = omega arith in
         let within : i < cells G = let h = whole in omega arith in
         let home = L.facts.claim_home c p i r.sound inside free within (of_part i within (omega arith) (omega arith)) in
         let stands : Stands G i (get_elem? s.homes (slot_number G place i)) (Home home.0) = subst (Stands G i (get_elem? s.homes (slot_number G place i))) home.1 (r.slots place i there within) in
         (stands.0, ap (get_elem? s.homes) (sym at) ∙ stands.1, λ x e. stands.3 ∙ ap (cell_length G) (let z : i ≡ x = omega arith in z)) in
         let g = gathered Some P s.homes (slot_number G place first) count each in
-        (g.0, g.1, g.2, every_moved P (λ x y. length y.bytes ≡ cell_length G x) (place * cells G) first g.0 (λ x y h. h x refl) g.3)
+        (g.0, g.1, g.2, every_moved P (λ x y. length y.bytes ≡ cell_length G x) (place * slot_row G) first g.0 (λ x y h. h x refl) g.3)
 
     -- in no other round and of no other partition do the bytes change
     other_bytes : (m q : ℕ) → ¬ ((m ≡ k) × (q ≡ p)) → r.bytes m q ≡ with_mark r.bytes k p b m q
@@ -178,7 +178,7 @@ module _ {T : Type 0} (may : T → ℕ → ℕ → ℕ → Type 0) (key : Key T)
         (among place first count e i)
       where
         room : slot_number G place first + count ≤ length s.homes
-        room = let h = whole in let t = there in let rows = mul-le-mul_right {m = place + 1} {n = G.depth} (cells G) (omega arith) in let size = r.room in omega (arith, rows)
+        room = let h = whole in let t = there in let rows = mul-le-mul_right {m = place + 1} {n = G.depth} (slot_row G) (omega arith) in let size = r.room in omega (arith, rows)
 
     stands : (e i : ℕ) → e < G.depth → i < cells G
         → Stands G i (get_elem? (cleared s.homes (slot_number G place first) count) (slot_number G e i)) (put_slots c.slot place (λ j. send_of G j == p) (Out n) e i)
@@ -197,7 +197,7 @@ module _ {T : Type 0} (may : T → ℕ → ℕ → ℕ → Type 0) (key : Key T)
         (among place first count e i)
       where
         room : slot_number G place first + count ≤ length s.homes
-        room = let h = whole in let t = there in let rows = mul-le-mul_right {m = place + 1} {n = G.depth} (cells G) (omega arith) in let size = r.room in omega (arith, rows)
+        room = let h = whole in let t = there in let rows = mul-le-mul_right {m = place + 1} {n = G.depth} (slot_row G) (omega arith) in let size = r.room in omega (arith, rows)
 
     pub wins : (id : ℕ) (d : View) → get_elem? s.views id ≡ some d → d.standing ≡ Seated → d.number ≡ n → IsAllowed G c (TryClaim n p b)
         → after G c (TryClaim n p b) ≡ claims G n p b c → MayMark may key k p b

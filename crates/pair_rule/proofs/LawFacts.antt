@@ -33,7 +33,7 @@ use Rattle.pair_core.proofs.ReceiveMarks.{claim_past, full_claimed}
 use Rattle.slot_rows.proofs.Acts.{cleared, cleared_here, cleared_else, stocked, stocked_else}
 use Rattle.pair_rule.specs.Addresses.{address}
 use Rattle.pair_rule.specs.Buf.{Buf}
-use Rattle.pair_rule.specs.Rule.{At, Shown, slot_number, Agrees, MayMark, Rule}
+use Rattle.pair_rule.specs.Rule.{At, Shown, slot_number, slot_row, Agrees, MayMark, Rule}
 use Rattle.pair_rule.specs.Views.{seen}
 use Rattle.pair_rule.specs.Steps.{MayMake}
 use Rattle.pair_rule.specs.Seats.{cells_of}
@@ -245,7 +245,7 @@ module _ {T : Type 0} (may : T → ℕ → ℕ → ℕ → Type 0) (key : Key T)
     room : (k f n : ℕ) → f + n ≤ cells G → slot_number G (k % G.depth) f + n ≤ length s.homes
     room k f n whole =
         let there = place_there k G.depth r.shape.depth.0 in let size = r.room in
-        let rows = mul-le-mul_right {m = k % G.depth + 1} {n = G.depth} (cells G) (omega arith) in omega (arith, rows)
+        let rows = mul-le-mul_right {m = k % G.depth + 1} {n = G.depth} (slot_row G) (omega arith) in omega (arith, rows)
 
     sent_room : (k p : ℕ) → sent_slot G k p + sent_count G p ≤ length s.homes
     sent_room k p = let low = first_sent-mono G r.shape p (p + 1) (omega arith) in let most = first_sent-le G r.shape (p + 1) in

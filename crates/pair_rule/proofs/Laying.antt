@@ -28,7 +28,7 @@ use Rattle.slot_rows.specs.Lists.{Every}
 use Rattle.slot_rows.proofs.Acts.{stocked, stocked_here, stocked_else, stocked_length}
 use Rattle.pair_rule.specs.Addresses.{address}
 use Rattle.pair_rule.specs.Buf.{Buf}
-use Rattle.pair_rule.specs.Rule.{At, Shown, slot_number, cell_length, Stands, Agrees, IsMarked, Rule}
+use Rattle.pair_rule.specs.Rule.{At, Shown, slot_number, slot_row, cell_length, Stands, Agrees, IsMarked, Rule}
 use Rattle.pair_rule.specs.Views as view
 use Rattle.pair_rule.specs.Steps.{MayMake, AreCuts}
 use Rattle.pair_rule.specs.declared.view.View.{View}
@@ -140,14 +140,14 @@ module _ {T : Type 0} (may : T → ℕ → ℕ → ℕ → Type 0) (key : Key T)
     in_both j within a d = let h = (in_shared G r.shape p i j within piece).0 (a, d) in let f = (shared-some G r.shape p i piece).0 touch in (h.0, let y = h.1 in omega arith)
 
     room : slot_number G place first + length zs ≤ length s.homes
-    room = let h = whole in let t = there in let rows = mul-le-mul_right {m = place + 1} {n = G.depth} (cells G) (omega arith) in let deep = r.room in let z = sized in omega (arith, rows)
+    room = let h = whole in let t = there in let rows = mul-le-mul_right {m = place + 1} {n = G.depth} (slot_row G) (omega arith) in let deep = r.room in let z = sized in omega (arith, rows)
 
     -- what comes home: the round, the length and the bytes of its cell
     abbrev Fits' : ℕ → Buf → Type 0
-    Fits' j y = (e : ℕ) → j ≡ place * cells G + e → (y.round ≡ k) × (length y.bytes ≡ cell_length G e) × (y.bytes ≡ cell_bytes G (r.bytes k) e)
+    Fits' j y = (e : ℕ) → j ≡ place * slot_row G + e → (y.round ≡ k) × (length y.bytes ≡ cell_length G e) × (y.bytes ≡ cell_bytes G (r.bytes k) e)
 
     filled : Every Fits' (slot_number G place first) xs
-    filled = every_back Fits' (λ e y. (y.round ≡ k) × (y.bytes ≡ cut G e b)) (place * cells G) first xs
+    filled = every_back Fits' (λ e y. (y.round ≡ k) × (y.bytes ≡ cut G e b)) (place * slot_row G) first xs
         (λ j y from to h e same.
         let here : j ≡ e = omega arith in
         let within : j < cells G = let w = whole in let z = size in omega arith in
@@ -163,8 +163,8 @@ module _ {T : Type 0} (may : T → ℕ → ℕ → ℕ → Type 0) (key : Key T)
         stocked_here Some Fits' s.homes (slot_number G place first) xs (slot_number G e j) filled at.0 (let q = at.1 in let zz = size in omega arith) (let q = room in let zz = length-map xs Some in omega arith)
 
     -- its slot is number place * cells + j
-    as_number : (e j : ℕ) → e ≡ place → slot_number G e j ≡ place * cells G + j
-    as_number e j same = ap (λ (z : ℕ). z * cells G + j) same
+    as_number : (e j : ℕ) → e ≡ place → slot_number G e j ≡ place * slot_row G + j
+    as_number e j same = ap (λ (z : ℕ). z * slot_row G + j) same
 
     apart : (e j : ℕ) → j < cells G → ¬ IsAmong place first count e j → (slot_number G e j < slot_number G place first) ⊎ (slot_number G place first + length zs ≤ slot_number G e j)
     apart e j within not = let z = sized in ⊎_elim (λ low. inl low) (λ high. inr (omega arith)) (number_out G place first count e j within whole not)

@@ -23,7 +23,7 @@ use Rattle.slot_rows.specs.Lists.{Every}
 use Rattle.slot_rows.proofs.Acts.{stocked, stocked_here, stocked_else, stocked_length}
 use Rattle.pair_rule.specs.Addresses.{address}
 use Rattle.pair_rule.specs.Buf.{Buf}
-use Rattle.pair_rule.specs.Rule.{At, Shown, slot_number, cell_length, Stands, Agrees, Rule}
+use Rattle.pair_rule.specs.Rule.{At, Shown, slot_number, slot_row, cell_length, Stands, Agrees, Rule}
 use Rattle.pair_rule.specs.Views as view
 use Rattle.pair_rule.specs.Steps.{MayMake, AreOf}
 use Rattle.pair_rule.specs.declared.view.View.{View}
@@ -117,7 +117,7 @@ module _ {T : Type 0} (may : T → ℕ → ℕ → ℕ → Type 0) (key : Key T)
     sized = length-map ys Some ∙ size
 
     room : slot_number G place first + length zs ≤ length s.homes
-    room = let h = whole in let t = there in let rows = mul-le-mul_right {m = place + 1} {n = G.depth} (cells G) (omega arith) in let deep = r.room in let z = sized in omega (arith, rows)
+    room = let h = whole in let t = there in let rows = mul-le-mul_right {m = place + 1} {n = G.depth} (slot_row G) (omega arith) in let deep = r.room in let z = sized in omega (arith, rows)
 
     of_part : (i : ℕ) → i < cells G → first ≤ i → i < first + count → recv_of G i ≡ q
     of_part i within from to = let l = low in (in_received G r.shape q i within).1 (from, omega arith)
@@ -126,10 +126,10 @@ module _ {T : Type 0} (may : T → ℕ → ℕ → ℕ → Type 0) (key : Key T)
     in_part i within is = let h = (in_received G r.shape q i within).0 is in let l = low in (h.0, let x = h.1 in omega arith)
 
     abbrev Fits' : ℕ → Buf → Type 0
-    Fits' j y = (e : ℕ) → j ≡ place * cells G + e → (y.round ≡ k) × (length y.bytes ≡ cell_length G e)
+    Fits' j y = (e : ℕ) → j ≡ place * slot_row G + e → (y.round ≡ k) × (length y.bytes ≡ cell_length G e)
 
     filled : Every Fits' (slot_number G place first) ys
-    filled = every_back Fits' (λ e y. (y.round ≡ k) × (length y.bytes ≡ cell_length G e)) (place * cells G) first ys
+    filled = every_back Fits' (λ e y. (y.round ≡ k) × (length y.bytes ≡ cell_length G e)) (place * slot_row G) first ys
         (λ j y from to h e same. let here : j ≡ e = omega arith in (h.0, h.1 ∙ ap (cell_length G) here)) all
 
     brought : (e j : ℕ) → IsAmong place first count e j → (y : Buf) × (get_elem? homes' (slot_number G e j) ≡ some (some (Some y))) × Fits' (slot_number G e j) y
@@ -141,7 +141,7 @@ module _ {T : Type 0} (may : T → ℕ → ℕ → ℕ → Type 0) (key : Key T)
 
     stands : (e j : ℕ) → e < G.depth → j < cells G → Stands G j (get_elem? homes' (slot_number G e j)) (c'.slot e j)
     stands e j deep within = ⊎_elim
-        (λ (among' : IsAmong place first count e j). let y = brought e j among' in let fits = y.2 j (ap (λ (z : ℕ). z * cells G + j) among'.0) in
+        (λ (among' : IsAmong place first count e j). let y = brought e j among' in let fits = y.2 j (ap (λ (z : ℕ). z * slot_row G + j) among'.0) in
         subst (Stands G j (get_elem? homes' (slot_number G e j)))
         (sym (slots.put_here c.slot place these (Home k) e j among'.0 (eq-eqb (recv_of G j) q (of_part j within among'.1 among'.2))))
         (y.0, y.1, fits.0, fits.1))

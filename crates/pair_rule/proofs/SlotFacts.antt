@@ -14,7 +14,7 @@ use Rattle.part_tables.proofs.Facts.{received-row, cell_bytes-agree, first_recei
 use Rattle.pair_core.specs.Core.{Slot}
 use Rattle.pair_core.specs.Steps.{put_slots}
 use Rattle.slot_rows.specs.Lists.{Every}
-use Rattle.pair_rule.specs.Rule.{slot_number}
+use Rattle.pair_rule.specs.Rule.{slot_number, slot_row}
 
 -- cell c at place e is one of the n cells from f on at place d
 abbrev pub IsAmong : ℕ → ℕ → ℕ → ℕ → ℕ → Type 0
@@ -35,15 +35,15 @@ among d f n e c = dite (ℕ_discrete e d)
 -- where its slot stands
 pub number_in : (g : Shape) (d f n e c : ℕ) → IsAmong d f n e c → (slot_number g d f ≤ slot_number g e c) × (slot_number g e c < slot_number g d f + n)
 number_in g d f n e c all =
-    let same : e * cells g ≡ d * cells g = ap (λ (z : ℕ). z * cells g) all.0 in let low = all.1 in let high = all.2 in (omega arith, omega arith)
+    let same : e * slot_row g ≡ d * slot_row g = ap (λ (z : ℕ). z * slot_row g) all.0 in let low = all.1 in let high = all.2 in (omega arith, omega arith)
 
 pub number_out : (g : Shape) (d f n e c : ℕ) → c < cells g → f + n ≤ cells g → ¬ IsAmong d f n e c → (slot_number g e c < slot_number g d f) ⊎ (slot_number g d f + n ≤ slot_number g e c)
 number_out g d f n e c inside fits not = elim (cases_lt e d) [
-  | inl before ↦ let h = mul-le-mul_right {m = e + 1} {n = d} (cells g) (omega arith) in inl (omega (arith, h))
+  | inl before ↦ let h = mul-le-mul_right {m = e + 1} {n = d} (slot_row g) (omega arith) in inl (omega (arith, h))
   | inr not_before ↦ elim (cases_lt d e) [
-    | inl behind ↦ let h = mul-le-mul_right {m = d + 1} {n = e} (cells g) (omega arith) in inr (omega (arith, h))
+    | inl behind ↦ let h = mul-le-mul_right {m = d + 1} {n = e} (slot_row g) (omega arith) in inr (omega (arith, h))
     | inr not_behind ↦
-        let same : e ≡ d = omega arith in let rows : e * cells g ≡ d * cells g = ap (λ (z : ℕ). z * cells g) same in
+        let same : e ≡ d = omega arith in let rows : e * slot_row g ≡ d * slot_row g = ap (λ (z : ℕ). z * slot_row g) same in
         elim (cases_lt c f) [
           | inl low ↦ inl (omega arith)
           | inr high ↦ elim (cases_lt c (f + n)) [

@@ -1,10 +1,10 @@
 -- A pair begins by its rule: the table has the first words, each slot is home with a buffer of round 0, and the one view is that of
 -- the send side, which is alone. It shows the core's first state. No piece has a round from 1 on, so no buffer has to have marked
 -- bytes. The lanes of the receive side are those of a round in which each partition was taken and given back.
-use Rattle.std.proofs.Common.{◌≡◌, ◌≢◌, inl, inr, ℕ, zero, suc, ◌+◌, ◌*◌, ◌/◌, ◌%◌, ◌<◌, ◌≤◌, true, false, nat_lt, List, [], ◌∷◌, length, map, Option, Some, refl, sym, ap, ◌∙◌, subst, arith}
+use Rattle.std.proofs.Common.{◌≡◌, ◌≢◌, inl, inr, ℕ, zero, suc, ◌+◌, ◌*◌, ◌/◌, ◌%◌, ◌<◌, ◌≤◌, true, false, nat_lt, List, [], ◌∷◌, length, map, Option, Some, None, refl, sym, ap, ◌∙◌, subst, arith}
 use Rattle.std.specs.Prelude.{if◌then◌else◌}
 use Rattle.std.specs.List.{range_with_len}
-use Rattle.std.proofs.lemmas.Bool.{cases_lt, le-ltb}
+use Rattle.std.proofs.lemmas.Bool.{cases_lt, le-ltb, lt-ltb}
 use Rattle.std.proofs.lemmas.List.{length-replicate, get_or-replicate, length-map}
 use Rattle.std.proofs.lemmas.List.FromFn.{length-map-range_with_len, get_or-map-range_with_len}
 use Rattle.std.proofs.lemmas.Nat.{mod-mul-add}
@@ -26,27 +26,35 @@ use Rattle.pair_core.proofs.Cut.{cell_piece, take_word}
 use Rattle.pair_core.proofs.Start.{piece_full, part_there}
 use Rattle.pair_core.proofs.StateNumbers.{row_lt}
 use Rattle.pair_rule.specs.Buf.{Buf}
-use Rattle.pair_rule.specs.First.{first_table, first_buf, first_bufs, first_view, receiver}
+use Rattle.pair_rule.specs.First.{first_table, first_buf, first_bufs, first_in_slot, first_view, receiver}
 use Rattle.pair_rule.specs.Parts.{first_lane, first_lanes}
 use Rattle.pair_rule.specs.Seats.{AreLanes, IsLane}
-use Rattle.pair_rule.specs.Rule.{slot_number, cell_length, Agrees, Holds}
+use Rattle.pair_rule.specs.Rule.{slot_number, slot_row, cell_length, Agrees, Holds}
 use Rattle.pair_rule.specs.declared.view.View.{View}
 use Rattle.pair_rule.specs.declared.view.Standing.TheVariants.{Told, Closed}
 use Rattle.pair_rule.specs.declared.rule.Key.{Key}
 use Rattle.pair_rule.proofs.Core.{CoreLaws}
 use Rattle.pair_rule.proofs.FirstFacts.{first_words-length, first_words-at, first_table-length, first_table-has}
 
-pub first_bufs-length : (g : Shape) → length (first_bufs g) ≡ g.depth * cells g
+pub first_bufs-length : (g : Shape) → length (first_bufs g) ≡ g.depth * slot_row g
 unfolding first_bufs
-first_bufs-length g = length-map-range_with_len (λ (n : ℕ). Some (first_buf g n)) 0 (g.depth * cells g)
+first_bufs-length g = length-map-range_with_len (first_in_slot g) 0 (g.depth * slot_row g)
 
-first_bufs-at : (g : Shape) (n : ℕ) → n < g.depth * cells g → get_elem? (first_bufs g) n ≡ some (Some (first_buf g n))
+first_bufs-nth : (g : Shape) (n : ℕ) → n < g.depth * slot_row g → get_elem? (first_bufs g) n ≡ some (first_in_slot g n)
 unfolding first_bufs
-first_bufs-at g n inside =
-    let f : ℕ → Option Buf = λ n. Some (first_buf g n) in
-    let count : ℕ = g.depth * cells g in
+first_bufs-nth g n inside =
+    let f : ℕ → Option Buf = first_in_slot g in
+    let count : ℕ = g.depth * slot_row g in
     let long : n < length (map f (range_with_len 0 count)) = let e = length-map-range_with_len f 0 count in omega arith in
     at_index (map f (range_with_len 0 count)) n (f n) long (sym (get_or-map-range_with_len f 0 count n n (f n) inside (let e : 0 + n ≡ n = omega arith in e)))
+
+-- the slot of a cell at a place has the cell's buffer
+first_bufs-at : (g : Shape) (e c : ℕ) → e < g.depth → c < cells g → get_elem? (first_bufs g) (slot_number g e c) ≡ some (Some (first_buf g c))
+first_bufs-at g e c deep inside =
+    let low : c < slot_row g = omega arith in
+    let is : slot_number g e c % slot_row g ≡ c = mod-mul-add e (slot_row g) c low in
+    first_bufs-nth g (slot_number g e c) (row_lt e c g.depth (slot_row g) deep low)
+    ∙ (ap (λ (z : ℕ). some (if nat_lt z (cells g) then Some (first_buf g z) else None)) is ∙ rw (lt-ltb c (cells g) inside) refl)
 
 -- the one view that the table has
 only_first : (v d : View) (i : ℕ) → get_elem? (v ∷ []) i ≡ some d → (i ≡ 0) × (v ≡ d)
@@ -84,10 +92,8 @@ module _ {T : Type 0} (may : T → ℕ → ℕ → ℕ → Type 0) (key : Key T)
   starts L v =
       let d : View = first_view G in
       let homes = map some (first_bufs G) in
-      let at : (e c : ℕ) → e < G.depth → c < cells G → get_elem? homes (slot_number G e c) ≡ some (some (Some (first_buf G (slot_number G e c)))) = λ e c deep inside.
-      at_map some (first_bufs G) (slot_number G e c) (Some (first_buf G (slot_number G e c))) (first_bufs-at G (slot_number G e c) (row_lt e c G.depth (cells G) deep inside)) in
-      let long : (e c : ℕ) → c < cells G → length (first_buf G (slot_number G e c)).bytes ≡ cell_length G c = λ e c inside.
-      length-replicate (cell_length G (slot_number G e c % cells G)) 0 ∙ ap (cell_length G) (mod-mul-add e (cells G) c inside) in
+      let at : (e c : ℕ) → e < G.depth → c < cells G → get_elem? homes (slot_number G e c) ≡ some (some (Some (first_buf G c))) = λ e c deep inside.
+      at_map some (first_bufs G) (slot_number G e c) (Some (first_buf G c)) (first_bufs-at G e c deep inside) in
       inl (record {
         core = first_state {A = List ℕ} G;
         seat = λ n. 0;
@@ -100,7 +106,7 @@ module _ {T : Type 0} (may : T → ℕ → ℕ → ℕ → Type 0) (key : Key T)
         size = first_table-length G;
         room = length-map (first_bufs G) some ∙ first_bufs-length G;
         words = first_table-has G;
-        slots = λ e c deep inside. (first_buf G (slot_number G e c), at e c deep inside, refl, long e c inside);
+        slots = λ e c deep inside. (first_buf G c, at e c deep inside, refl, length-replicate (cell_length G c) 0);
         kept = λ e c b deep inside home kept one. let none = (piece_full G v e (piece_of G c) (cell_piece G c inside)).round in absurd (omega arith);
         seats = λ i f is alive. let o = only_first d f i is in
             subst (λ (z : ℕ × View). Agrees G (first_state {A = List ℕ} G) true 0 0 (λ n. 0) z.0 z.1) (λ j. (sym o.0 j, o.1 j)) (first_agrees v);

@@ -24,7 +24,7 @@ use Rattle.slot_rows.specs.Lists.{Every}
 use Rattle.slot_rows.proofs.Acts.{cleared, cleared_here, cleared_else, cleared_length, Stand, gathered, every_weaker}
 use Rattle.pair_rule.specs.Addresses.{address}
 use Rattle.pair_rule.specs.Buf.{Buf}
-use Rattle.pair_rule.specs.Rule.{At, Shown, slot_number, cell_length, Stands, Agrees, MayStand, Rule}
+use Rattle.pair_rule.specs.Rule.{At, Shown, slot_number, slot_row, cell_length, Stands, Agrees, MayStand, Rule}
 use Rattle.pair_rule.specs.Views as view
 use Rattle.pair_rule.specs.Steps.{MayMake, AreOf}
 use Rattle.pair_rule.specs.declared.view.View.{View}
@@ -124,7 +124,7 @@ module _ {T : Type 0} (may : T → ℕ → ℕ → ℕ → Type 0) (key : Key T)
     there = place_there k G.depth r.shape.depth.0
 
     room : slot_number G place first + count ≤ length s.homes
-    room = let h = whole in let t = there in let rows = mul-le-mul_right {m = place + 1} {n = G.depth} (cells G) (omega arith) in let size = r.room in omega (arith, rows)
+    room = let h = whole in let t = there in let rows = mul-le-mul_right {m = place + 1} {n = G.depth} (slot_row G) (omega arith) in let size = r.room in omega (arith, rows)
 
     of_part : (i : ℕ) → i < cells G → first ≤ i → i < first + count → recv_of G i ≡ q
     of_part i within from to = let l = low in (in_received G r.shape q i within).1 (from, omega arith)
@@ -142,10 +142,10 @@ module _ {T : Type 0} (may : T → ℕ → ℕ → ℕ → Type 0) (key : Key T)
     -- the buffers that are home in its slots
     pub gone : (ys : List Buf) × (length ys ≡ count) × Stand s.homes (slot_number G place first) (map Some ys) × Every Taken' first ys
     gone =
-        let P : ℕ → Buf → Type 0 = λ j y. (i : ℕ) → j ≡ place * cells G + i → Taken' i y in
+        let P : ℕ → Buf → Type 0 = λ j y. (i : ℕ) → j ≡ place * slot_row G + i → Taken' i y in
         let each : (j : ℕ) → slot_number G place first ≤ j → j < slot_number G place first + count → (y : Buf) × (get_elem? s.homes j ≡ some (some (Some y))) × P j y = λ j from to.
-        let i : ℕ = j - place * cells G in
-        let at : place * cells G + i ≡ j = omega arith in
+        let i : ℕ = j - place * slot_row G in
+        let at : place * slot_row G + i ≡ j = omega arith in
         let within : i < cells G = let h = whole in omega arith in
         let of : recv_of G i ≡ q = of_part i within (omega arith) (omega arith) in
         let home = L.facts.take_home c q i w r.sound allowed within of in
@@ -154,7 +154,7 @@ module _ {T : Type 0} (may : T → ℕ → ℕ → ℕ → Type 0) (key : Key T)
         let is = r.kept place i stands.0 there within stands.1 home.1 (let p = positive in omega arith) ∙ ap (λ (z : ℕ). cell_bytes G (r.bytes z) i) now in
         (stands.0, ap (get_elem? s.homes) (sym at) ∙ stands.1, λ x e. subst (λ (z : ℕ). Taken' z stands.0) (let z : i ≡ x = omega arith in z) (stands.2, stands.3, is)) in
         let g = gathered Some P s.homes (slot_number G place first) count each in
-        (g.0, g.1, g.2, every_moved P Taken' (place * cells G) first g.0 (λ x y h. h x refl) g.3)
+        (g.0, g.1, g.2, every_moved P Taken' (place * slot_row G) first g.0 (λ x y h. h x refl) g.3)
 
     -- they have the partition's bytes
     pub whole_bytes : (ys : List Buf) → length ys ≡ count → Every Taken' first ys → flat_map (λ (y : Buf). y.bytes) ys ≡ part_bytes G bytes q

@@ -11,7 +11,7 @@ use Rattle.pair_core.specs.Moves.{part_mask, first_state}
 use Rattle.pair_core.specs.State.{word_count}
 use Rattle.pair_rule.specs.Addresses.{table_size}
 use Rattle.pair_rule.specs.Buf.{Buf, buf}
-use Rattle.pair_rule.specs.Rule.{cell_length}
+use Rattle.pair_rule.specs.Rule.{cell_length, slot_row}
 use Rattle.pair_rule.specs.Views.{told}
 use Rattle.pair_rule.specs.declared.TheConstants.{FREE_WORDS}
 use Rattle.pair_rule.specs.declared.view.View.{View}
@@ -49,13 +49,17 @@ first_in_table g n =
 unfoldable pub first_table : Shape → List ℕ
 first_table g = map (first_in_table g) (range_with_len 0 (table_size g))
 
--- the buffer with a number before the first step: of round 0, with as many zeros as its cell has bytes
+-- the buffer of a cell before the first step: of round 0, with as many zeros as the cell has bytes
 abbrev pub first_buf : Shape → ℕ → Buf
-first_buf g n = buf 0 (replicate (cell_length g (n % cells g)) 0)
+first_buf g c = buf 0 (replicate (cell_length g c) 0)
 
--- the buffers before the first step, those of the cells in order at each place
+-- what a slot has before the first step: its cell's buffer, or nothing where it is a free one
+abbrev pub first_in_slot : Shape → ℕ → Option Buf
+first_in_slot g n = if nat_lt (n % slot_row g) (cells g) then Some (first_buf g (n % slot_row g)) else None
+
+-- the slots before the first step, in order
 unfoldable pub first_bufs : Shape → List (Option Buf)
-first_bufs g = map (λ n. Some (first_buf g n)) (range_with_len 0 (g.depth * cells g))
+first_bufs g = map (first_in_slot g) (range_with_len 0 (g.depth * slot_row g))
 
 -- a view of the seat n that has seen these words and did nothing
 abbrev pub fresh : Shape → ℕ → List ℕ → View

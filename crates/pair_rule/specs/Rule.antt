@@ -19,6 +19,7 @@ use Rattle.pair_rule.specs.Addresses.{address, table_size, HasWords}
 use Rattle.pair_core.specs.Facts.{piece_word, IsKept}
 use Rattle.pair_core.specs.declared.view.Mark.{Mark}
 use Rattle.pair_core.specs.declared.view.Life.TheVariants.{Blank, Live}
+use Rattle.pair_rule.specs.declared.TheConstants.{FREE_SLOTS}
 use Rattle.pair_rule.specs.Buf.{Buf}
 use Rattle.pair_rule.specs.declared.view.View.{View}
 use Rattle.pair_rule.specs.declared.view.Standing.TheVariants.{Seated, Told, Closed}
@@ -31,9 +32,13 @@ At = State (Option Buf) View
 abbrev pub Shown : Type 0
 Shown = Core (List ℕ)
 
+-- The slots of a place stand in a row: one for each cell, and behind them free ones, which always are empty.
+abbrev pub slot_row : Shape → ℕ
+slot_row g = cells g + FREE_SLOTS
+
 -- the number of the slot of cell c at place d
 abbrev pub slot_number : Shape → ℕ → ℕ → ℕ
-slot_number g d c = d * cells g + c
+slot_number g d c = d * slot_row g + c
 
 -- how many bytes cell c has
 abbrev pub cell_length : Shape → ℕ → ℕ
@@ -113,7 +118,7 @@ module _ {T : Type 0} (may : T → ℕ → ℕ → ℕ → Type 0) where
     pub shape : IsShape key.geometry
     pub sound : Sound key.geometry core
     pub size : length s.words ≡ table_size key.geometry
-    pub room : length s.homes ≡ key.geometry.depth * cells key.geometry
+    pub room : length s.homes ≡ key.geometry.depth * slot_row key.geometry
     pub words : HasWords key.geometry s.words core.word
     pub slots : (d c : ℕ) → d < key.geometry.depth → c < cells key.geometry
         → Stands key.geometry c (get_elem? s.homes (slot_number key.geometry d c)) (core.slot d c)

@@ -49,9 +49,10 @@ impl<C: Content> Pair<C> {
         }) }
     {
         let tables = Tables::new(alloc, geometry)?;
+        // Before the lanes, so that these don't stand beside the tables, which other threads read.
+        let words = first_table(alloc, &tables)?;
         let lanes = lay_lanes(alloc, &tables)?;
         let shelves = lay_shelves(alloc, &tables)?;
-        let words = first_table(alloc, &tables)?;
         let bufs = first_bufs(alloc, &tables)?;
         let key = Key { geometry, tag };
         let made = Table::new(alloc, &words, bufs, &key);

@@ -1,17 +1,15 @@
 //! The words and the buffers before the first step.
 
 ghost use Rattle.part_geometry.specs.declared.TheConstants.{MAX_PARTS};
-ghost use Rattle.std.specs.Prelude.{◌≡◌, ◌+◌, ◌*◌, ◌-◌, ◌%◌, ◌<◌, ◌≤◌, ◌^◌, true, IfOk, replicate};
+ghost use Rattle.std.specs.Prelude.{◌≡◌, ◌+◌, ◌*◌, ◌-◌, ◌%◌, ◌<◌, ◌≤◌, ◌^◌, true, IfOk};
 ghost use Rattle.part_geometry.specs.Cells.{cells};
 ghost use Rattle.pair_core.specs.Moves.{part_mask};
 ghost use Rattle.pair_rule.specs.Addresses.{table_size};
-ghost use Rattle.pair_rule.specs.Buf.{buf};
-ghost use Rattle.pair_rule.specs.First.{first_in_table, first_table, first_buf, first_bufs};
-ghost use Rattle.pair_rule.specs.Rule.{cell_length};
+ghost use Rattle.pair_rule.specs.First.{first_in_table, first_table, first_buf, first_bufs, first_in_slot};
 
-use crate::FREE_WORDS;
 use crate::buf::CellBuf;
-use crate::words::{claim_words, take_words};
+use crate::words::{claim_words, slot_row, take_words};
+use crate::{FREE_BYTES, FREE_WORDS};
 use gate_word::pack;
 use part_tables::Tables;
 use std::alloc::{AllocError, Global};
@@ -73,28 +71,40 @@ pub(crate) fn first_table(alloc: Global, tables: &Tables) -> Result<Vec<u64>, Al
     Ok(words)
 }
 
-/// The buffer of cell `c`.
+/// The buffer of cell `c`. No two buffers share a cache line.
 fn cell_buf(alloc: Global, tables: &Tables, c: usize) -> Result<CellBuf, AllocError>
     requires { c < cells tables.now }
-    ensures { IfOk result (λ b. b ≡ buf 0 (replicate (cell_length tables.now c) 0)) }
+    ensures { IfOk result (λ b. b ≡ first_buf tables.now c) }
 {
     // The geometry's limits, for the proof.
     let _geometry = tables.geometry();
     let cell = tables.cell(c);
-    let bytes = Vec::from_elem(alloc, 0u8, (cell.end - cell.start) as usize)?;
+    let count = (cell.end - cell.start) as usize;
+    let mut bytes = Vec::from_elem(alloc, 0u8, count + FREE_BYTES)?;
+    bytes.truncate(count);
     Ok(CellBuf::of(bytes))
 }
 
-/// The buffers, those of the cells in order at each place.
+/// What slot `n` has.
+fn slot_buf(alloc: Global, tables: &Tables, n: usize) -> Result<Option<CellBuf>, AllocError>
+    ensures { IfOk result (λ b. b ≡ first_in_slot tables.now n) }
+{
+    let c = n % slot_row(tables);
+    if c < tables.cells() {
+        Ok(Some(cell_buf(alloc, tables, c)?))
+    } else {
+        Ok(None)
+    }
+}
+
+/// What the slots have, in order.
 pub(crate) fn first_bufs(alloc: Global, tables: &Tables) -> Result<Vec<Option<CellBuf>>, AllocError>
     ensures { IfOk result (λ bufs. bufs.items ≡ first_bufs tables.now) }
 {
-    let depth = tables.geometry().depth() as usize;
-    let cells = tables.cells();
-    let count = depth * cells;
+    let count = tables.geometry().depth() as usize * slot_row(tables);
     let mut bufs = Vec::with_capacity(alloc, count)?;
     for n in 0..count {
-        bufs.push(Some(cell_buf(alloc, tables, n % cells)?))?;
+        bufs.push(slot_buf(alloc, tables, n)?)?;
     }
     Ok(bufs)
 }

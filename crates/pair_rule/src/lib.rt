@@ -36,3 +36,9 @@ pub use view::{Standing, View};
 /// How many words are free between two rows of the table. They fill two cache lines of 64 bytes, since processors fetch
 /// lines by twos.
 pub(crate) const FREE_WORDS: usize = 16;
+
+/// How many slots are free behind those of a place. They take two cache lines at least.
+pub(crate) const FREE_SLOTS: usize = 4;
+
+/// How many bytes are free behind those of a buffer: two cache lines.
+pub(crate) const FREE_BYTES: usize = 128;

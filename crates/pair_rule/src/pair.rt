@@ -27,8 +27,8 @@ pub struct Pair<C: Content> {
 impl<C: Content> Model for Pair<C> {
     ghost use Rattle.std.specs.Prelude.{◌≡◌, ◌*◌};
     ghost use Rattle.part_geometry.specs.Shape.{IsShape};
-    ghost use Rattle.part_geometry.specs.Cells.{cells};
     ghost use Rattle.pair_rule.specs.Addresses.{table_size};
+    ghost use Rattle.pair_rule.specs.Rule.{slot_row};
     ghost use Rattle.pair_rule.specs.Seats.{PairOf};
 
     ghost Value = { PairOf C.Tag };
@@ -37,7 +37,7 @@ impl<C: Content> Model for Pair<C> {
 
     ghost invariant = { λ p. (p.tables ≡ p.table.shared.key.geometry) × IsShape p.table.shared.key.geometry
         × (p.table.shared.table_id.words ≡ table_size p.table.shared.key.geometry)
-        × (p.table.shared.table_id.slots ≡ p.table.shared.key.geometry.depth * cells p.table.shared.key.geometry) };
+        × (p.table.shared.table_id.slots ≡ p.table.shared.key.geometry.depth * slot_row p.table.shared.key.geometry) };
 }
 
 impl<C: Content> Pair<C> {

@@ -24,7 +24,7 @@ use crate::plays::Numbers;
 use crate::recv_plays::{Finds, ReturnsPart, TakesPart};
 use crate::rule::Place;
 use crate::seats::{RecvSeat, Shelf};
-use crate::words::{one_bit, return_word, take_word};
+use crate::words::{one_bit, return_word, slot_row, take_word};
 use part_tables::Tables;
 use slot_rows::{Lane, pass_from, pass_to, set_flags, swap_in, turn_times};
 use std::alloc::{AllocError, Global};
@@ -178,7 +178,7 @@ impl<C: Content> Pair<C> {
         ensures slots { seat.new.me ≡ with_part_value lanes.now place q index new seat.old.me }
     {
         let (first, _after) = self.tables.received(q as usize);
-        let slot = place as usize * self.tables.cells() + first + index;
+        let slot = place as usize * slot_row(&self.tables) + first + index;
         swap_in(
             &self.table.shared,
             seat,

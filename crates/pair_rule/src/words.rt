@@ -1,15 +1,16 @@
 //! Where the words of a pair stand in its table.
 
-ghost use Rattle.std.specs.Prelude.{◌≡◌, ◌<◌, ◌≤◌, ◌^◌};
+ghost use Rattle.std.specs.Prelude.{◌≡◌, ◌+◌, ◌*◌, ◌<◌, ◌≤◌, ◌^◌};
 ghost use Rattle.part_geometry.specs.Pieces.{pieces};
 ghost use Rattle.pair_core.specs.Names.{Claim, Release, Take, Return, Piece, claim_words, take_words};
 ghost use Rattle.pair_core.specs.Words.{empty};
-ghost use Rattle.part_geometry.specs.declared.TheConstants.{LAST_ROUND};
+ghost use Rattle.part_geometry.specs.declared.TheConstants.{LAST_ROUND, MAX_PARTS};
 ghost use Rattle.part_geometry.specs.Cells.{cells};
 ghost use Rattle.pair_rule.specs.Addresses.{address, table_size};
-ghost use Rattle.pair_rule.specs.Rule.{slot_number};
+ghost use Rattle.pair_rule.specs.Rule.{slot_number, slot_row};
+ghost use Rattle.pair_rule.specs.declared.TheConstants.{FREE_SLOTS};
 
-use crate::FREE_WORDS;
+use crate::{FREE_SLOTS, FREE_WORDS};
 use gate_word::pack;
 use part_tables::Tables;
 
@@ -81,6 +82,14 @@ pub(crate) fn piece_word(tables: &Tables, place: usize, i: usize) -> usize
     5 * FREE_WORDS + claim_words(tables) + 1 + 2 * take_words(tables) + (place * row + i)
 }
 
+/// How many slots a place has.
+pub(crate) fn slot_row(tables: &Tables) -> usize
+    ensures value { result ≡ slot_row tables.now }
+    ensures limits { result < 2 * MAX_PARTS + FREE_SLOTS }
+{
+    tables.cells() + FREE_SLOTS
+}
+
 /// The number of the slot of cell `cell` at a place; or the one behind the place's last.
 pub(crate) fn slot_of(tables: &Tables, place: usize, cell: usize) -> usize
     requires place { place < tables.now.depth }
@@ -89,7 +98,7 @@ pub(crate) fn slot_of(tables: &Tables, place: usize, cell: usize) -> usize
 {
     // The geometry's limits, for the proof.
     let _geometry = tables.geometry();
-    place * tables.cells() + cell
+    place * slot_row(tables) + cell
 }
 
 /// The number whose one bit is bit `j`.

@@ -2,12 +2,11 @@ use Rattle.std.proofs.Common.{◌≡◌, ℕ, ◌*◌, List, [], Option, length,
 use Rattle.std.proofs.lemmas.List.FromFn.{length-map-range_with_len}
 use Rattle.atomic_table.specs.Table.{opening, Me}
 use Rattle.part_geometry.specs.Shape.{Shape, IsShape}
-use Rattle.part_geometry.specs.Cells.{cells}
 use Rattle.pair_rule.specs.Addresses.{table_size}
 use Rattle.pair_rule.specs.Buf.{Buf}
 use Rattle.pair_rule.specs.First.{first_table, first_bufs, first_view, in_company, receiver}
 use Rattle.pair_rule.specs.Parts.{first_lanes, first_shelves, first_shelf}
-use Rattle.pair_rule.specs.Rule.{Holds}
+use Rattle.pair_rule.specs.Rule.{Holds, slot_row}
 use Rattle.pair_rule.specs.Seats.{AreLanes}
 use Rattle.pair_rule.specs.declared.rule.Key.{Key}
 use Rattle.pair_rule.specs.declared.view.View.{View}
@@ -72,5 +71,5 @@ invariant_of-result g c =
     let back : G ≡ c.in-Ok.table.shared.key.geometry = sym (ap (λ (z : Key g.row.C-Tag.Denot). z.geometry) made.5) in
     let shape : IsShape G = subst IsShape (c.tables.view_is ∙ same) c.tables.invariant.shape in
     let words : length c.deref.result.now ≡ table_size G = ap length (c.deref.ensures.value ∙ (c.in_ok-words.ensures ∙ ap first_table same)) ∙ first_table-length G in
-    let bufs : length c.in_ok-bufs.bufs.items ≡ G.depth * cells G = ap length (c.in_ok-bufs.ensures ∙ ap first_bufs same) ∙ first_bufs-length G in
-    (same ∙ back, subst IsShape back shape, made.0 ∙ (words ∙ ap table_size back), made.1 ∙ (bufs ∙ ap (λ (z : Shape). z.depth * cells z) back))
+    let bufs : length c.in_ok-bufs.bufs.items ≡ G.depth * slot_row G = ap length (c.in_ok-bufs.ensures ∙ ap first_bufs same) ∙ first_bufs-length G in
+    (same ∙ back, subst IsShape back shape, made.0 ∙ (words ∙ ap table_size back), made.1 ∙ (bufs ∙ ap (λ (z : Shape). z.depth * slot_row z) back))
