@@ -6,7 +6,6 @@ use Rattle.std.proofs.lemmas.Bool.{eq-eqb}
 use Rattle.std.proofs.lemmas.List.{length-replicate}
 use Rattle.atomic_table.proofs.Lists.{set_here, set_else}
 use Rattle.part_geometry.specs.Shape.{Shape}
-use Rattle.part_geometry.specs.Cells.{cells}
 use Rattle.pair_core.specs.Moves.{IsRecvIdle, IsRecvActive}
 use Rattle.pair_core.specs.Reading.{part_bit}
 use Rattle.pair_core.specs.Names.{Take, Return}
@@ -17,6 +16,7 @@ use Rattle.slot_rows.specs.Lanes.{place, flagged, HasFlags, rows_of}
 use Rattle.slot_rows.proofs.Lists.{at_split}
 use Rattle.slot_rows.proofs.Lanes.{flagged_at, rows_of_out, rows_of_in, rows_of_none, place_before}
 use Rattle.slot_rows.proofs.Overlays.{spliced_block}
+use Rattle.pair_rule.specs.Rule.{slot_row}
 use Rattle.pair_rule.specs.Buf.{Buf}
 use Rattle.pair_rule.specs.Views.{seen}
 use Rattle.pair_rule.specs.Seats.{RecvHeld, Room, AreLanes, flag, cells_of}
@@ -63,7 +63,7 @@ pub end_view : (a b : Bool) (w v : ℕ) (s : RecvHeld) (d : View) → d.geometry
 end_view a b w v s d g r side out h = record {
   side = side;
   out = out;
-  slots = h.slots ∙ (λ i. rows_of None (sym r i % (sym g i).depth * cells (sym g i)) s.lanes);
+  slots = h.slots ∙ (λ i. rows_of None (sym r i % (sym g i).depth * slot_row (sym g i)) s.lanes);
   shelves = λ q l at home.
       let x = h.shelves q l at home in
       record { room = x.room; there = x.there; wide = subst (λ (z : Shape). cells_of z q ≤ x.room) (sym g) x.wide };
@@ -76,7 +76,7 @@ pub end_begins : (s : RecvHeld) → AreLanes s.view (length s.slots) s.lanes →
 end_begins s lanes h = record {
   side = h.idle;
   out = sym h.alone;
-  slots = none_out s.view s.slots s.lanes lanes h.idle ∙ sym (rows_of_none None (place_of s.view * cells s.view.geometry) s.lanes (idle_home s.view (length s.slots) s.lanes lanes h.idle));
+  slots = none_out s.view s.slots s.lanes lanes h.idle ∙ sym (rows_of_none None (place_of s.view * slot_row s.view.geometry) s.lanes (idle_home s.view (length s.slots) s.lanes lanes h.idle));
   shelves = λ q l at home. h.shelves q (subst (λ (z : ℕ). q < z) lanes.parts (at_split s.lanes q l at).0);
 }
 
@@ -104,8 +104,8 @@ end_starts a w s d g side out home h = record {
   side = side;
   out = out;
   slots =
-      h.slots ∙ (rows_of_none None (place_of s.view * cells s.view.geometry) s.lanes home
-      ∙ sym (rows_of_none None (place_of d * cells d.geometry) (all_untaken s.lanes) (λ q l at. (untaken_at s.lanes q l at).1)));
+      h.slots ∙ (rows_of_none None (place_of s.view * slot_row s.view.geometry) s.lanes home
+      ∙ sym (rows_of_none None (place_of d * slot_row d.geometry) (all_untaken s.lanes) (λ q l at. (untaken_at s.lanes q l at).1)));
   shelves = λ q l at still.
       let y = (untaken_at s.lanes q l at).0 in
       let x = h.shelves q y.0 y.1 (home q y.0 y.1) in
@@ -117,7 +117,7 @@ end_starts a w s d g side out home h = record {
 -- after it what the end keeps holds: the partition's slots are out and empty, and its shelf is away
 pub end_takes : (may : ℕ → ℕ → ℕ → Type 0) (a : Bool) (w q : ℕ) (shelf : Room) (s t : RecvHeld) → AreLanes s.view (length s.slots) s.lanes → HasFlags false false q s.lanes → PartTaken may q shelf s t → IsEnd a w s → IsEnd a w t
 end_takes may a w q shelf s t lanes free h end =
-    let g : Shape = s.view.geometry in let base : ℕ = place_of s.view * cells g in
+    let g : Shape = s.view.geometry in let base : ℕ = place_of s.view * slot_row g in
     let lane = lanes.each q free.lane free.at in
     let d : View = taken_from q (bytes_in shelf.bufs) (seen s.view (Take (q / 32))) s.view in
     let ls : List Lane = flagged true true q s.lanes in
@@ -141,9 +141,9 @@ end_takes may a w q shelf s t lanes free h end =
 
 module _ (a : Bool) (w q : ℕ) (s : RecvHeld) (lanes : AreLanes s.view (length s.slots) s.lanes) (h : HasFlags true true q s.lanes) (end : IsEnd a w s) where
   block : (take (cells_of s.view.geometry q) (drop (place s.lanes q) s.slots) ≡ row (own_slot s.view q) (replicate (cells_of s.view.geometry q) None))
-      × (without_part s.view.geometry s.lanes q s.slots ≡ rows_of None (place_of s.view * cells s.view.geometry) (flagged true false q s.lanes))
+      × (without_part s.view.geometry s.lanes q s.slots ≡ rows_of None (place_of s.view * slot_row s.view.geometry) (flagged true false q s.lanes))
   block =
-      let g : Shape = s.view.geometry in let base : ℕ = place_of s.view * cells g in
+      let g : Shape = s.view.geometry in let base : ℕ = place_of s.view * slot_row g in
       let lane = lanes.each q h.lane h.at in
       let rest : List (ℕ × Option Buf) = rows_of None base (flagged true false q s.lanes) in
       let is : s.slots ≡ spliced (place s.lanes q) (own_slot s.view q) (replicate (cells_of g q) None) rest =

@@ -10,11 +10,11 @@ use Rattle.part_geometry.specs.declared.answers.RecvTest.TheVariants.{Idle, Unta
 use Rattle.part_geometry.specs.declared.answers.StartFault.{StartFault}
 use Rattle.part_geometry.specs.declared.answers.StartFault.TheVariants.{AlreadyActive, RoundsSpent}
 use Rattle.part_geometry.specs.Shape.{Shape}
-use Rattle.part_geometry.specs.Cells.{cells}
 use Rattle.pair_core.specs.Names.{take_words}
 use Rattle.pair_core.specs.Moves.{IsRecvIdle, IsRecvActive}
 use Rattle.slot_rows.specs.declared.lane.Lane.{Lane}
 use Rattle.slot_rows.specs.Lanes.{rows_of}
+use Rattle.pair_rule.specs.Rule.{slot_row}
 use Rattle.pair_rule.specs.Seats.{RecvHeld, cells_of}
 use Rattle.pair_rule.specs.First.{first_view, receiver}
 use Rattle.pair_rule.specs.Parts.{place_of, first_shelves}
@@ -58,7 +58,7 @@ FirstRests = (g : Shape) (s : RecvHeld) → s.view ≡ receiver (first_view g) �
 pub record IsEnd (active : Bool) (watchers : ℕ) (s : RecvHeld) : Type 0 where
   pub side : IsSide active s.view
   pub out : watchers ≡ s.view.recv.watchers
-  pub slots : s.slots ≡ rows_of None (place_of s.view * cells s.view.geometry) s.lanes
+  pub slots : s.slots ≡ rows_of None (place_of s.view * slot_row s.view.geometry) s.lanes
   pub shelves : (q : ℕ) (l : Lane) → get_elem? s.lanes q ≡ some l → l.out ≡ false → HasShelf q s
 
 -- a start answers the next round, unless the end is active or this round is the last
