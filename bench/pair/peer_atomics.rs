@@ -24,7 +24,8 @@ const NAMES: [&str; 9] =
     ["--send-parts", "--recv-parts", "--bytes", "--grain", "--depth", "--rounds", "--markers", "--watchers", "--pause"];
 const SAMPLES: u64 = 1000;
 const SPAN: u64 = 64;
-const TRIES: u32 = 32;
+// How many looks in vain pass with a pause; after each further one the thread lets another one run.
+const TRIES: u32 = 8;
 
 struct Plan {
     send_parts: usize,
@@ -126,11 +127,11 @@ fn check(bytes: &[u8], place: usize, round: u64) -> bool {
 fn wait_until(ready: impl Fn() -> bool) {
     let mut tries = 0;
     while !ready() {
-        tries += 1;
-        if tries % TRIES == 0 {
-            thread::yield_now();
-        } else {
+        if tries < TRIES {
+            tries += 1;
             hint::spin_loop();
+        } else {
+            thread::yield_now();
         }
     }
 }

@@ -21,7 +21,7 @@
 
 #define SAMPLES 1000
 #define SPAN 64
-#define TRIES 32
+#define TRIES 8
 #define MOST_THREADS 64
 
 typedef struct {
@@ -86,7 +86,7 @@ static void stamp(long round) {
 }
 
 static void pause_or_yield(long tries) {
-  if (tries % TRIES == 0) sched_yield();
+  if (tries > TRIES) sched_yield();
   else __builtin_ia32_pause();
 }
 

@@ -38,8 +38,9 @@ impl Shared {
     }
 }
 
-/// How many looks of a waiting thread pass until it lets another one run. There may be fewer processors than threads.
-const TRIES: u32 = 32;
+/// How many looks in vain pass with a pause; after each further one the thread lets another one run. There may be fewer
+/// processors than threads.
+const TRIES: u32 = 8;
 
 /// How often a thread has looked in vain.
 #[derive(Drop)]
@@ -55,8 +56,8 @@ impl Looks {
 
     /// Waits a moment after a look in vain. Fails where another thread has failed.
     pub fn pause(&mut self, shared: &Shared) -> Result<(), Fault> {
-        self.vain = self.vain.wrapping_add(1);
-        if self.vain % TRIES != 0 {
+        if self.vain < TRIES {
+            self.vain += 1;
             spin_loop();
             return Ok(());
         }
