@@ -1,3 +1,5 @@
 pub mod RowFacts
 pub mod HaloFacts
 pub mod RestFacts
+pub mod OutsideFacts
+pub mod StepFacts

@@ -6,7 +6,7 @@ use Rattle.plain_pair.specs.Kept.{Kept}
 use Rattle.stencil_def.specs.Limits.{IsValue}
 use Rattle.stencil_def.specs.Plane.{Plane}
 use Rattle.stencil_def.specs.declared.rule.Rule.{Rule}
-use Rattle.cell_lanes.specs.Block.{Part, HoldsMiddle, HoldsOwn, IsPart, part_of}
+use Rattle.cell_lanes.specs.Block.{Part, HoldsMiddle, HoldsOwn, IsPart, at, part_of}
 use Rattle.halo_plan.specs.declared.TheConstants.{DOWN, ELEMENT_BYTES}
 use Rattle.halo_plan.specs.declared.edge.Edge.{Edge}
 use Rattle.halo_plan.specs.Plan.{Plan, cut_as, elements, first_row, shape_of, values}
@@ -36,6 +36,10 @@ no_pair = record {
 
 abbrev pub pair_at : List Kept → ℕ → Kept
 pair_at pairs e = slice_index_or pairs e no_pair
+
+-- an own cell of a block
+abbrev pub own_at : Part → ℕ → ℕ → ℤ
+own_at b row col = at b (b.reach + row) (b.reach + col)
 
 -- how many rows rank i has
 abbrev pub rows_of : Plan → ℕ → ℕ

@@ -1,0 +1,43 @@
+-- A step of a block whose rows have the grid's reading, and of all blocks.
+use Rattle.std.proofs.Common.{◌≡◌, ◌∙◌, refl, sym, ap, subst, ℕ, ◌+◌, ◌-◌, ◌*◌, ◌<◌, ◌≤◌, ℤ, pos, ◌-ℤ◌, List, length, get_or, set, arith, inl, inr}
+use Rattle.std.proofs.lemmas.Bool.{cases_eq}
+use Rattle.stencil_def.specs.Plane.{Plane, cell}
+use Rattle.stencil_def.specs.declared.rule.Rule.{Rule}
+use Rattle.stencil_def.specs.Step.{next_plane, read}
+use Rattle.cell_lanes.specs.Block.{Part, Holds, HoldsMiddle, HoldsOwn, HoldsRow, IsInside, IsPart, SameSize, at, height, width}
+use Rattle.halo_plan.specs.Plan.{IsPlan, Plan, first_row}
+use Rattle.halo_plan.proofs.Planning.{block-some, row-inside}
+use Rattle.rank_task.specs.Blocks.{AreSized, IsSized, OwnRead, AllRead, HoldGrid, Suit, block_at, rows_of}
+use Rattle.rank_task.proofs.RowFacts.{read-inside}
+use Rattle.rank_task.proofs.OutsideFacts.{ahead}
+
+-- where all rows have the reading, the block has it
+pub holds-all : (g : Plane) (rule : Rule) (top : ℕ) (old new : Part) → SameSize old new → ((y : ℕ) → y < height old → HoldsRow g rule top y new) → Holds g rule top 0 new
+holds-all g rule top old new size rows y x less lt =
+    let r = size.rows in let h = size.reach in
+    rows y (omega arith) x lt
+
+-- the block of a rank lies inside the grid
+pub block-inside : (p : Plan) (g : Plane) (rule : Rule) (i : ℕ) (b : Part) → IsPlan p → Suit p g rule → i < p.ranks → IsSized p i b → IsInside g (first_row p i) 0 b
+block-inside p g rule i b v suit less s =
+    let rows = suit.rows in let cols = suit.cols in let many = s.rows in let wide = s.cols in
+    let ranks = v.ranks in
+    let end = row-inside (i + 1) p.rows p.ranks (omega arith) (omega arith) in
+    let some = block-some p i v in
+    record { rows_fit = omega arith; cols_fit = omega arith }
+
+-- own cells of the grid have its reading
+pub own-read : (p : Plan) (g : Plane) (rule : Rule) (blocks : List Part) → IsPlan p → AreSized p blocks → Suit p g rule → HoldGrid p g blocks → OwnRead p g rule blocks
+own-read p g rule blocks v s suit holds i row less inside col lt =
+    let size = s.each i less in let h = size.reach in let w = size.cols in let many = size.rows in
+    let b = block_at blocks i in
+    let rows = suit.rows in let cols = suit.cols in
+    let ranks = v.ranks in
+    let end = row-inside (i + 1) p.rows p.ranks (omega arith) (omega arith) in
+    let none : 0 + col ≡ col = omega arith in
+    ap (λ n. at b (n + row) (b.reach + col)) (sym h)
+    ∙ holds i less row col (omega arith) lt
+    ∙ ap (λ n. cell g (first_row p i + row) n) none
+    ∙ sym (read-inside g rule (first_row p i + row) col (omega arith) (omega arith))
+    ∙ ap (λ z. read g rule z (pos col)) (sym (ahead (first_row p i) p.reach row))
+    ∙ ap (λ n. read g rule (pos (first_row p i + (p.reach + row)) -ℤ pos n) (pos col)) (sym h)
