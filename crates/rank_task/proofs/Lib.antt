@@ -3,3 +3,4 @@ pub mod HaloFacts
 pub mod RestFacts
 pub mod OutsideFacts
 pub mod StepFacts
+pub mod GridFacts

@@ -135,12 +135,13 @@ fn set_open(plan: &HaloPlan, rule: &Rule, blocks: &mut [Block], row: &mut [i64])
     }
 }
 
-/// Gives the halo rows that no edge brings, if there are any, what lies there. All rows then have the grid's reading.
+/// Gives the halo rows that no edge brings, if there are any, what lies there. All rows then have the grid's
+/// reading. In `row`, which has room for a row, such a row is made.
 pub(crate) fn set_outsides(plan: &HaloPlan, rule: &Rule, blocks: &mut [Block], row: &mut [i64])
     requires around { rule.now.around ≡ plan.now.around }
     requires reach { rule.now.weights.reach ≡ plan.now.reach }
     requires blocks { AreSized plan.now blocks.old }
-    requires row { length row.old ≡ plan.now.cols }
+    requires row { plan.now.cols ≤ length row.old }
     requires values { All IsValue row.old }
     ensures blocks { AreSized plan.now blocks.new }
     ensures values { All IsValue row.new }
@@ -148,9 +149,8 @@ pub(crate) fn set_outsides(plan: &HaloPlan, rule: &Rule, blocks: &mut [Block], r
         AreBrought plan.now g rule.now blocks.old (length (edges plan.now)) →
         AllRead plan.now g rule.now blocks.new }
 {
-    // The plan's limits, for the proof.
-    let _reach = plan.reach();
+    let cols = plan.cols() as usize;
     if is_open(plan, rule) {
-        set_open(plan, rule, blocks, row);
+        set_open(plan, rule, blocks, &mut row[..cols]);
     }
 }

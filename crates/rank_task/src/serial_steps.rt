@@ -77,9 +77,10 @@ fn step(
     ensures next { (g : Plane) → Suit plan.now g rule.now → HoldGrid plan.now g blocks.old →
         HoldGrid plan.now (next_plane g rule.now) blocks.new }
 {
+    // The plan's limits, for the proof.
+    let _reach = plan.reach();
     pass_edges(plan, round, pairs, blocks, scratch);
-    let cols = plan.cols() as usize;
-    set_outsides(plan, rule, blocks, &mut scratch.carried[..cols]);
+    set_outsides(plan, rule, blocks, &mut scratch.carried);
     step_blocks(plan, rule, weights, divisor, blocks);
 }
 
