@@ -3,8 +3,15 @@
 use Rattle.std.proofs.Common.{◌≡◌, ◌∙◌, refl, sym, ap, subst, ℕ, zero, suc, ◌+◌, ◌-◌, ◌*◌, ◌<◌, ◌≤◌, ℤ, pos, List, [], ◌∷◌, ◌++◌, length, take, drop, length-take-le, get_or, map, add-one, arith, inl, inr}
 use Rattle.std.specs.List.{flat_map, range_with_len}
 use Rattle.std.proofs.lemmas.List.{drop-take, ext_get_or, flat_map_more, get_or-drop, get_or-take, get_or_append_left, get_or_push, length-drop, take-append-drop, take-take, take_all, take_more}
+use Rattle.std.specs.List.{All}
 use Rattle.std.proofs.lemmas.List.Concat.{flat_map-cons}
-use Rattle.std.proofs.lemmas.Grind.{flat_map-append}
+use Rattle.std.proofs.lemmas.List.Elements.{All-append, All-drop, All-nil, All-take}
+use Rattle.stencil_def.specs.Limits.{IsValue}
+use Rattle.stencil_def.specs.declared.rule.Rule.{Rule}
+use Rattle.stencil_def.specs.Step.{fold_plane}
+use Rattle.stencil_def.proofs.FoldFacts.{fold-length}
+use Rattle.rank_task.proofs.StepFacts.{suit-next}
+use Rattle.std.proofs.Math.Seq.{take-append_seam}
 use Rattle.std.proofs.lemmas.Nat.{mul-le}
 use Rattle.stencil_def.specs.Plane.{IsPlane, Plane, cell, plane_of, row_of}
 use Rattle.cell_lanes.specs.Block.{HoldsOwn, IsPart, Part, at, own_cells, width, with_cells}
@@ -13,7 +20,7 @@ use Rattle.cell_lanes.proofs.WindowFacts.{below-or}
 use Rattle.halo_plan.specs.Plan.{IsPlan, Plan, first_row}
 use Rattle.halo_plan.proofs.Planning.{block-some, row-inside}
 use Rattle.rank_task.specs.Ranks.{gathered, own_values}
-use Rattle.rank_task.specs.Blocks.{AreSized, HoldGrid, IsSized, block_at, no_part, rows_of}
+use Rattle.rank_task.specs.Blocks.{AreSized, HoldGrid, IsSized, Suit, block_at, no_part, rows_of}
 use Rattle.rank_task.proofs.RowFacts.{own-at, row-room, with-apart, with-inside}
 use Rattle.rank_task.proofs.HaloFacts.{first-last, first-zero}
 
@@ -49,12 +56,13 @@ join-range xs f t a (suc n) up each =
     let end : a + 1 + n ≡ a + suc n = omega arith in
     let first = up a in
     let far = rest.1 in
-    let same = ap t end in
-    (flat_map-cons f a (range_with_len (a + 1) n)
-    ∙ (λ i. each a (omega arith) (omega arith) i ++ rest.0 i)
-    ∙ join xs (t a) (t (a + 1)) (t (a + 1 + n)) first far
-    ∙ ap (λ m. between xs (t a) (t m)) end,
-    omega arith)
+    let same = ap t end in (
+      flat_map-cons f a (range_with_len (a + 1) n)
+          ∙ (λ i. each a (omega arith) (omega arith) i ++ rest.0 i)
+          ∙ join xs (t a) (t (a + 1)) (t (a + 1 + n)) first far
+          ∙ ap (λ m. between xs (t a) (t m)) end,
+      omega arith,
+    )
 
 join-list : {X : Type 0} (xs : List ℤ) (f : X → List ℤ) (d : X) (t : ℕ → ℕ) (a : ℕ) (ys : List X) → ((r : ℕ) → t r ≤ t (r + 1))
     → ((i : ℕ) → i < length ys → f (get_or ys i d) ≡ between xs (t (a + i)) (t (a + i + 1)))
@@ -65,12 +73,13 @@ join-list xs f d t a (y ∷ ys) up each =
     (λ i less. let e : a + suc i ≡ a + 1 + i = omega arith in each (suc i) (omega arith) ∙ (λ j. between xs (t (e j)) (t (e j + 1)))) in
     let end : a + 1 + length ys ≡ a + suc (length ys) = omega arith in
     let here : a + 0 ≡ a = omega arith in
-    let first = up a in let far = rest.1 in let same = ap t end in
-    (flat_map-cons f y ys
-    ∙ (λ i. (each 0 (omega arith) ∙ (λ j. between xs (t (here j)) (t (here j + 1)))) i ++ rest.0 i)
-    ∙ join xs (t a) (t (a + 1)) (t (a + 1 + length ys)) first far
-    ∙ ap (λ m. between xs (t a) (t m)) end,
-    omega arith)
+    let first = up a in let far = rest.1 in let same = ap t end in (
+      flat_map-cons f y ys
+          ∙ (λ i. (each 0 (omega arith) ∙ (λ j. between xs (t (here j)) (t (here j + 1)))) i ++ rest.0 i)
+          ∙ join xs (t a) (t (a + 1)) (t (a + 1 + length ys)) first far
+          ∙ ap (λ m. between xs (t a) (t m)) end,
+      omega arith,
+    )
 
 -- ---- the rows of a block
 
@@ -200,3 +209,57 @@ pub blocks-more : (blocks : List Part) (k : ℕ) (b : Part) (before : List ℤ) 
 blocks-more blocks k b before less is done =
     ap (λ xs. xs ++ own_values b) done ∙ flat_map_more own_values [] (take k blocks) b
     ∙ ap (flat_map own_values) (ap (λ (q : Part). take k blocks ++ q ∷ []) is ∙ sym (take_more blocks k b less))
+
+-- ---- the limits of the grid
+
+all-flat : {X : Type 0} (f : X → List ℤ) (xs : List X) (d : X) → ((i : ℕ) → i < length xs → All IsValue (f (get_or xs i d))) → All IsValue (flat_map f xs)
+all-flat f [] d each = All-nil IsValue
+all-flat f (x ∷ xs) d each =
+    subst (All IsValue) (sym (flat_map-cons f x xs))
+    (All-append IsValue (f x) (flat_map f xs) (each 0 (omega arith)) (all-flat f xs d (λ i less. each (suc i) (omega arith))))
+
+all-own : (b : Part) → IsPart b → All IsValue (own_values b)
+all-own b s =
+    all-flat (own_cells b) (range_with_len 0 b.rows) 0
+    (λ i less. let row = get_or (range_with_len 0 b.rows) i 0 in let start = (b.reach + row) * width b + b.reach in
+    All-take IsValue b.cols (drop start b.values) (All-drop IsValue start b.values s.values))
+
+pub gathered-plane : (p : Plan) (g : Plane) (blocks : List Part) → IsPlan p → AreSized p blocks → gathered p blocks ≡ g → length g.values ≡ p.rows * p.cols → IsPlane (gathered p blocks)
+unfolding gathered
+gathered-plane p g blocks v s same long =
+    let count = s.count in
+    record {
+      rows = v.rows;
+      cols = v.cols;
+      cells = v.cells;
+      length = ap (λ (h : Plane). length h.values) same ∙ long;
+      values = all-flat own_values blocks no_part (λ i less. all-own (block_at blocks i) (s.each i (omega arith)).limits);
+    }
+
+pub gathered-size : (p : Plan) (blocks : List Part) → ((gathered p blocks).rows ≡ p.rows) × ((gathered p blocks).cols ≡ p.cols)
+unfolding gathered
+gathered-size p blocks = (refl, refl)
+
+pub gathered-from : (p : Plan) (blocks : List Part) (rows cols : ℕ) (values : List ℤ) → rows ≡ p.rows → cols ≡ p.cols → values ≡ flat_map own_values blocks → plane_of rows cols values ≡ gathered p blocks
+unfolding gathered
+gathered-from p blocks rows cols values many wide is = λ i. plane_of (many i) (wide i) (is i)
+
+pub gathered-values : (p : Plan) (blocks : List Part) → (gathered p blocks).values ≡ flat_map own_values blocks
+unfolding gathered
+gathered-values p blocks = refl
+
+-- after some steps
+pub stepped : (p : Plan) (g : Plane) (rule : Rule) (n : ℕ) (blocks : List Part) → IsPlan p → AreSized p blocks → IsPlane g → Suit p g rule → HoldGrid p (fold_plane g rule n) blocks
+    → gathered p blocks ≡ fold_plane g rule n
+stepped p g rule n blocks v s plane suit holds =
+    let later = suit-next p g rule n suit in
+    gathered-is p (fold_plane g rule n) blocks v s holds later.rows later.cols (fold-length g rule n plane ∙ (λ i. suit.rows i * suit.cols i))
+
+pub stepped-plane : (p : Plan) (g : Plane) (rule : Rule) (n : ℕ) (blocks : List Part) → IsPlan p → AreSized p blocks → IsPlane g → Suit p g rule → HoldGrid p (fold_plane g rule n) blocks
+    → IsPlane (gathered p blocks)
+stepped-plane p g rule n blocks v s plane suit holds =
+    gathered-plane p (fold_plane g rule n) blocks v s (stepped p g rule n blocks v s plane suit holds) (fold-length g rule n plane ∙ (λ i. suit.rows i * suit.cols i))
+
+-- what was written back into a vector of the same length
+pub written : {X : Type 0} (len : ℕ) (old xs : List X) → len ≡ length old → length xs ≡ length old → take len (xs ++ drop (length xs) old) ≡ xs
+written len old xs many long = ap (λ n. take n (xs ++ drop (length xs) old)) (many ∙ sym long) ∙ take-append_seam xs (drop (length xs) old)

@@ -59,6 +59,9 @@ impl SerialRanks {
         requires around { rule.around ≡ plan.around }
         ensures { IfOk result (λ ranks. ranks ≡ first_ranks plan rule grid.now) }
     {
+        // The limits of the plan and of the grid, for the proof.
+        let _reach = plan.reach();
+        let _rows = grid.rows();
         let blocks = all_blocks(alloc, &plan, grid)?;
         let pairs = all_pairs(alloc, &plan)?;
         let scratch = room(alloc, &plan)?;
@@ -82,6 +85,8 @@ impl SerialRanks {
         requires { self.old.steps + steps ≤ LAST_ROUND }
         ensures { self.new ≡ ranks_after self.old steps }
     {
+        // The plan's limits, for the proof.
+        let _reach = self.plan.reach();
         run_steps(
             &self.plan,
             &self.rule,

@@ -144,7 +144,8 @@ pub(crate) fn pass_edges(
     ensures brought { (g : Plane) (rule : Rule) → Suit plan.now g rule → OwnRead plan.now g rule blocks.old →
         AreBrought plan.now g rule blocks.new (length (edges plan.now)) }
 {
-    for e in 0..plan.edge_count() {
+    let count = plan.edge_count();
+    for e in 0..count {
         pass_edge(plan, e, round, &mut pairs[e as usize], blocks, scratch);
     }
 }

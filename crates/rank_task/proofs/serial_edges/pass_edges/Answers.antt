@@ -13,7 +13,7 @@ loop-e-preserved c =
     let e = c.loop-e.e in
     let k = c.args.round - 1 in
     let i = c.loop-e.invariant in
-    let less : e < length (edges p) = let end = c.edge_count-e-end.ensures.value in omega arith in
+    let less : e < length (edges p) = let end = c.edge_count-count.ensures.value in omega arith in
     let some = c.requires.some in
     let done = c.pass_edge.ensures in
     record {
@@ -30,10 +30,10 @@ loop-e-preserved c =
 
 pub returns-clause-pairs : goal.returns-clause-pairs
 returns-clause-pairs c =
-    let some = c.requires.some in let end = c.edge_count-e-end.ensures.value in let far = c.loop-e-test.false in
+    let some = c.requires.some in let end = c.edge_count-count.ensures.value in let far = c.loop-e-test.false in
     paired-all c.args.plan.now (c.args.round - 1) c.loop-e.e c.args.round c.loop-e.pairs c.loop-e.invariant.pairs (omega arith) (omega arith)
 
 pub returns-clause-brought : goal.returns-clause-brought
 returns-clause-brought c g rule suit own e x less is =
-    let end = c.edge_count-e-end.ensures.value in let far = c.loop-e-test.false in
+    let end = c.edge_count-count.ensures.value in let far = c.loop-e-test.false in
     c.loop-e.invariant.brought g rule suit own e x (omega arith) is

@@ -1,11 +1,28 @@
-use Rattle.std.proofs.Common.{◌∙◌}
+use Rattle.std.proofs.Common.{◌≡◌, ◌∙◌, sym, ap, subst, ◌*◌, length, arith}
+use Rattle.std.specs.List.{All, flat_map}
+use Rattle.stencil_def.specs.Limits.{IsValue}
+use Rattle.rank_task.specs.Ranks.{own_values}
+use Rattle.rank_task.proofs.GridFacts.{gathered-from, gathered-values}
 use Rattle.rank_task.proofs.serial.SerialRanks.gather.Goals as goal
 
+items : (c : goal.In_ok-values) → c.in_ok-values.values.items ≡ flat_map own_values c.self.inside.blocks.items
+items c = c.in_ok-values.ensures ∙ ap (flat_map own_values) c.deref.ensures.value
+
 pub from_values-requires-clause-length : goal.from_values-requires-clause-length
-from_values-requires-clause-length c = ?
+from_values-requires-clause-length c =
+    let k = c.self.inside in
+    let s = c.self.invariant.suit in
+    c.in_ok-values.values.ok.0 ∙ ap length (items c ∙ sym (gathered-values k.plan k.blocks.items)) ∙ c.self.invariant.plane.length ∙ (λ i. (s.rows ∙ sym c.rows-rows.ensures.value) i * (s.cols ∙ sym c.cols-cols.ensures.value) i)
 
 pub from_values-requires-clause-values : goal.from_values-requires-clause-values
-from_values-requires-clause-values c = ?
+from_values-requires-clause-values c =
+    let k = c.self.inside in
+    subst (All IsValue) (sym (items c ∙ sym (gathered-values k.plan k.blocks.items))) c.self.invariant.plane.values
 
 pub returns-clause-grid : goal.returns-clause-grid
-returns-clause-grid c = ?
+returns-clause-grid c =
+    let k = c.self.inside in
+    c.from_values.ensures.value
+    ∙ gathered-from k.plan k.blocks.items c.rows-rows.result c.cols-cols.result c.in_ok-values.values.items c.rows-rows.ensures.value c.cols-cols.ensures.value
+    (c.in_ok-values.ensures ∙ ap (flat_map own_values) c.deref.ensures.value)
+    ∙ ap (λ r. r.grid) c.self.view_is
