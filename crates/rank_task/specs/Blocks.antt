@@ -9,7 +9,7 @@ use Rattle.stencil_def.specs.declared.rule.Rule.{Rule}
 use Rattle.cell_lanes.specs.Block.{Part, HoldsMiddle, HoldsOwn, IsPart, at, part_of}
 use Rattle.halo_plan.specs.declared.TheConstants.{DOWN, ELEMENT_BYTES}
 use Rattle.halo_plan.specs.declared.edge.Edge.{Edge}
-use Rattle.halo_plan.specs.Plan.{Plan, cut_as, elements, first_row, shape_of, values}
+use Rattle.halo_plan.specs.Plan.{Plan, elements, first_row, shape_of, values}
 use Rattle.halo_plan.specs.Edges.{edges}
 use Rattle.rank_task.specs.declared.serial_edges.Scratch.{Scratch}
 
@@ -22,7 +22,7 @@ block_at blocks i = slice_index_or blocks i no_part
 
 abbrev pub no_pair : Kept
 no_pair = record {
-  shape = cut_as 0 0 0 0 0;
+  shape = record { send_parts = 0; send_bytes = 0; recv_parts = 0; recv_bytes = 0; grain = 0; depth = 0 };
   sent = 0;
   received = 0;
   released = 0;
