@@ -2,13 +2,9 @@
 
 ghost use Rattle.std.specs.Prelude.{◌≡◌, ◌≤◌, ◌*◌, length, IfOk, OnOk};
 ghost use Rattle.std.specs.List.{All};
-<<<<<<< HEAD
-ghost use Rattle.halo_message.specs.declared.TheConstants.{ELEMENT_BYTES};
-=======
 ghost use Rattle.part_geometry.specs.declared.TheConstants.{LAST_ROUND};
 ghost use Rattle.stencil_def.specs.Step.{fold_plane};
-ghost use Rattle.halo_plan.specs.declared.TheConstants.{ELEMENT_BYTES};
->>>>>>> 3daf1f5 (rank_task: edits, caller and CALLING.md of SerialRanks)
+ghost use Rattle.halo_message.specs.declared.TheConstants.{ELEMENT_BYTES};
 ghost use Rattle.halo_plan.specs.Plan.{elements, values};
 ghost use Rattle.halo_message.specs.Elements.{IsWord};
 

@@ -1,6 +1,6 @@
 -- The grid that the blocks have: where each block has the rows of its rank, the rows of all of them, one block under the
 -- other, are the grid's.
-use Rattle.std.proofs.Common.{◌≡◌, ◌∙◌, refl, sym, ap, subst, ℕ, zero, suc, ◌+◌, ◌-◌, ◌*◌, ◌<◌, ◌≤◌, ℤ, pos, List, [], ◌∷◌, ◌++◌, length, take, drop, length-take-le, get_or, map, add-one, arith, inl, inr}
+use Rattle.std.proofs.Common.{◌≡◌, ◌∙◌, refl, sym, ap, subst, ℕ, zero, suc, ◌+◌, ◌-◌, ◌*◌, ◌<◌, ◌≤◌, ℤ, pos, List, [], ◌∷◌, ◌++◌, length, take, drop, length-take-le, get_or, arith}
 use Rattle.std.specs.List.{flat_map, range_with_len}
 use Rattle.std.proofs.lemmas.List.{drop-take, ext_get_or, flat_map_more, get_or-drop, get_or-take, get_or_append_left, get_or_push, length-drop, take-append-drop, take-take, take_all, take_more}
 use Rattle.std.specs.List.{All}
@@ -14,13 +14,13 @@ use Rattle.rank_task.proofs.StepFacts.{suit-next}
 use Rattle.std.proofs.Math.Seq.{take-append_seam}
 use Rattle.std.proofs.lemmas.Nat.{mul-le}
 use Rattle.stencil_def.specs.Plane.{IsPlane, Plane, cell, plane_of, row_of}
-use Rattle.cell_lanes.specs.Block.{HoldsOwn, IsPart, Part, at, own_cells, width, with_cells}
-use Rattle.cell_lanes.proofs.BlockFacts.{OwnBelow, own-room}
+use Rattle.cell_lanes.specs.Block.{HoldsOwnBelow, HoldsOwn, IsPart, Part, at, own_cells, width, with_cells}
+use Rattle.cell_lanes.proofs.BlockFacts.{own-room}
 use Rattle.cell_lanes.proofs.WindowFacts.{below-or}
 use Rattle.halo_plan.specs.Plan.{IsPlan, Plan, first_row}
 use Rattle.halo_plan.proofs.Planning.{block-some, row-inside}
 use Rattle.rank_task.specs.Ranks.{gathered, own_values}
-use Rattle.rank_task.specs.Blocks.{AreSized, HoldGrid, IsSized, Suit, block_at, no_part, rows_of}
+use Rattle.rank_task.specs.Blocks.{AreSized, HoldGrid, IsSized, Suit, block_at, no_part}
 use Rattle.rank_task.proofs.RowFacts.{own-at, row-room, with-apart, with-inside}
 use Rattle.rank_task.proofs.HaloFacts.{first-last, first-zero}
 
@@ -158,9 +158,9 @@ gathered-is p g blocks v s holds rows cols long =
 
 -- ---- the rows of a block, as they are put
 
-pub fill-next : (p : Plan) (g : Plane) (i row reach : ℕ) (b new : Part) (cells : List ℤ) → IsSized p i b → OwnBelow g (first_row p i) 0 row b
+pub fill-next : (p : Plan) (g : Plane) (i row reach : ℕ) (b new : Part) (cells : List ℤ) → IsSized p i b → HoldsOwnBelow g (first_row p i) 0 row b
     → new ≡ with_cells (reach + row) reach cells b → reach ≡ p.reach → cells ≡ row_of g (first_row p i + row) → length cells ≡ b.cols → g.cols ≡ b.cols → row < b.rows → IsPart new
-    → OwnBelow g (first_row p i) 0 (row + 1) new
+    → HoldsOwnBelow g (first_row p i) 0 (row + 1) new
 fill-next p g i row reach b new cells s done same far is long wide less fine r col low lt =
     let high = s.reach in
     let y = reach + row in

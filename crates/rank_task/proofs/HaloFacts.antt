@@ -1,6 +1,6 @@
 -- What the edges of a plan bring: an edge's rows leave own rows of its sender and land in the halo of its receiver, and
 -- there the grid is read at the rows that left, straight on or round the edge of the grid.
-use Rattle.std.proofs.Common.{◌≡◌, ◌∙◌, refl, sym, ap, subst, ℕ, ◌+◌, ◌-◌, ◌*◌, ◌/◌, ◌%◌, ◌<◌, ◌≤◌, ◌==◌, ℤ, pos, negsuc, ◌-ℤ◌, Bool, true, false, Option, Some, List, length, length-set, get_or, set, arith, inl, inr, if◌then◌else◌}
+use Rattle.std.proofs.Common.{◌≡◌, ◌∙◌, refl, sym, ap, subst, ℕ, ◌+◌, ◌-◌, ◌*◌, ◌/◌, ◌%◌, ◌<◌, ◌≤◌, ◌==◌, ℤ, pos, negsuc, ◌-ℤ◌, true, false, Option, Some, List, length, length-set, get_or, set, arith, inl, inr, if◌then◌else◌}
 use Rattle.std.specs.Prelude.{◌⊎◌, slice_get}
 use Rattle.std.proofs.lemmas.Bool.{and_parts, cases_Bool, cases_eq}
 use Rattle.std.specs.Prelude.{nat_le}
@@ -22,8 +22,8 @@ use Rattle.halo_plan.specs.declared.edge.Edge.{Edge}
 use Rattle.plain_pair.specs.Kept.{Kept}
 use Rattle.halo_plan.specs.Plan.{IsPlan, Plan, first_row, shape_of}
 use Rattle.halo_plan.specs.Edges.{edges, goes_round, is_wrap}
-use Rattle.halo_plan.proofs.EdgeFacts.{behind, behind-inside, down, edge-even, edge-odd, edge-two, edges-many, few-edges, up}
-use Rattle.halo_plan.proofs.Planning.{block-enough, row-inside}
+use Rattle.halo_plan.proofs.EdgeFacts.{behind, down, edge-even, edge-odd, edge-two, edges-many, few-edges, up}
+use Rattle.halo_plan.proofs.Planning.{block-enough}
 use Rattle.rank_task.specs.Blocks.{AreBrought, ArePaired, AreSized, IsBrought, IsResting, IsSized, Keeps, OwnRead, Reads, Suit, block_at, landing, leaving, no_pair, no_part, pair_at, rows_of}
 use Rattle.rank_task.proofs.RowFacts.{middle-same, read-place}
 

@@ -1,6 +1,6 @@
 -- The halo rows that no edge brings, and all rows together. Outside the grid, where rows don't go round, lies the edge; with
 -- one rank, the block has all rows of the grid, so what lies there is one of its own rows.
-use Rattle.std.proofs.Common.{◌≡◌, ◌∙◌, refl, sym, ap, subst, ℕ, ◌+◌, ◌-◌, ◌*◌, ◌<◌, ◌≤◌, ◌==◌, ℤ, pos, negsuc, ◌-ℤ◌, Bool, true, false, ◌&&◌, not, Option, Some, None, IfSome, List, length, get_or, set, arith, inl, inr}
+use Rattle.std.proofs.Common.{◌≡◌, ◌∙◌, refl, sym, ap, subst, ℕ, ◌+◌, ◌-◌, ◌*◌, ◌<◌, ◌≤◌, ℤ, pos, negsuc, ◌-ℤ◌, true, false, ◌&&◌, Option, Some, None, IfSome, List, length, get_or, set, arith, inl, inr}
 use Rattle.std.specs.Prelude.{◌⊎◌, nat_le, nat_lt, slice_get}
 use Rattle.std.proofs.lemmas.Bool.{cases_Bool, cases_eq, cases_lt, le-ltb}
 use Rattle.std.proofs.lemmas.Bool.Decides.{nat_tests}
@@ -10,15 +10,14 @@ use Rattle.stencil_def.specs.declared.rule.Around.{Around}
 use Rattle.stencil_def.specs.declared.rule.Around.TheVariants.{Fixed, Wrap}
 use Rattle.stencil_def.specs.declared.rule.Rule.{Rule}
 use Rattle.stencil_def.specs.Step.{place, read}
-use Rattle.cell_lanes.specs.Block.{Part, HoldsMiddle, IsPart, SameRow, SameSize, at, height, own_cells, width, with_cells}
+use Rattle.cell_lanes.specs.Block.{Part, HoldsMiddle, IsPart, SameRow, SameSize, at, height, own_cells, with_cells}
 use Rattle.cell_lanes.proofs.RowFacts.{place-inside}
 use Rattle.cell_lanes.proofs.WindowFacts.{below-or}
-use Rattle.halo_plan.specs.declared.edge.Edge.{Edge}
 use Rattle.halo_plan.specs.Plan.{IsPlan, Plan, first_row}
 use Rattle.halo_plan.specs.Edges.{edges, goes_round, is_wrap}
-use Rattle.halo_plan.proofs.EdgeFacts.{behind, down, edge-even, edge-odd, edges-many, up}
+use Rattle.halo_plan.proofs.EdgeFacts.{down, edge-even, edge-odd, edges-many, up}
 use Rattle.halo_plan.proofs.Planning.{block-some, row-inside}
-use Rattle.rank_task.specs.Blocks.{AllRead, AreBrought, AreSized, IsOpenRead, Keeps, OwnRead, Reads, Suit, block_at, landing, no_part, own_at, rows_of}
+use Rattle.rank_task.specs.Blocks.{AllRead, AreBrought, AreSized, IsOpenRead, Keeps, OwnRead, Reads, Suit, block_at, no_part, own_at, rows_of}
 use Rattle.rank_task.proofs.RowFacts.{own-at, read-inside, read-none, read-some, row-room, with-apart, with-inside}
 use Rattle.rank_task.proofs.HaloFacts.{any-default, behind-last, behind-next, first-last, first-zero, keeps-set, rows-hold}
 

@@ -1,6 +1,6 @@
 -- A pair at rest by what it keeps. A pair that rests stands for a history, whose numbers it keeps; and where the numbers
 -- are those of a pair at rest, it stands for some history: full rounds, and a last one with the marks that are kept.
-use Rattle.std.proofs.Common.{◌≡◌, ◌∙◌, refl, sym, ap, subst, ℕ, zero, suc, ◌+◌, ◌-◌, ◌*◌, ◌<◌, ◌≤◌, ◌==◌, Bool, true, false, cond, List, [], ◌∷◌, ◌++◌, length, length-append, replicate, count_by, sum_by, arith, inl, inr, if◌then◌else◌}
+use Rattle.std.proofs.Common.{◌≡◌, ◌∙◌, refl, sym, ap, subst, ℕ, zero, suc, ◌+◌, ◌-◌, ◌*◌, ◌<◌, ◌≤◌, ◌==◌, Bool, true, false, cond, List, [], ◌∷◌, ◌++◌, length, length-append, replicate, count_by, arith, inl, inr}
 use Rattle.std.specs.Prelude.{◌||◌}
 use Rattle.std.specs.FinSet as parts
 use Rattle.std.specs.FinMap as rounds
@@ -19,7 +19,7 @@ use Rattle.plain_pair.proofs.Agree.{list_all-same}
 use Rattle.plain_pair.proofs.Counts.{count-all, count-same, list_all-range}
 use Rattle.plain_pair.proofs.Marks.{is_marked-insert, ties}
 use Rattle.plain_pair.proofs.Rounds.{is_marked-none, needed_below}
-use Rattle.rank_task.specs.Passing.{RestsAt}
+use Rattle.halo_message.specs.Passing.{RestsAt}
 use Rattle.rank_task.specs.Blocks.{IsResting}
 
 pub resting-from : (g : Shape) (k : ℕ) (pair : Kept) → RestsAt g k pair → IsResting g k pair

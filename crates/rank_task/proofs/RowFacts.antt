@@ -1,12 +1,12 @@
 -- Rows of a block: what copying them out and putting them in does, by places. A row that is put changes no other row.
-use Rattle.std.proofs.Common.{◌≡◌, ◌∙◌, refl, sym, ap, subst, ℕ, zero, suc, ◌+◌, ◌-◌, ◌*◌, ◌<◌, ◌≤◌, ◌^◌, ℤ, pos, ◌-ℤ◌, List, [], ◌∷◌, ◌++◌, length, take, drop, length-append, length-take-le, get_or, arith, inl, inr, unsigned_abs, w64}
-use Rattle.std.specs.Prelude.{◌⊎◌, nat_lt, true, Some, None, Option}
+use Rattle.std.proofs.Common.{◌≡◌, ◌∙◌, refl, sym, ap, ℕ, ◌+◌, ◌-◌, ◌*◌, ◌<◌, ◌≤◌, ℤ, pos, ◌-ℤ◌, List, ◌++◌, length, take, drop, length-take-le, get_or, arith, inl, inr, w64}
+use Rattle.std.specs.Prelude.{◌⊎◌, nat_lt, true, Some, None}
 use Rattle.std.specs.List.{All}
 use Rattle.std.proofs.lemmas.Bool.{lt-ltb}
 use Rattle.std.proofs.lemmas.List.Elements.{All-weaker}
-use Rattle.std.proofs.lemmas.Int.{ints, fits_signed_from_abs}
+use Rattle.std.proofs.lemmas.Int.{fits_signed_from_abs}
 use Rattle.std.proofs.lemmas.Nat.{mul-le}
-use Rattle.std.proofs.lemmas.List.{get_or_append_left, get_or-take, get_or-append_right, get_or-drop, length-drop}
+use Rattle.std.proofs.lemmas.List.{get_or_append_left, get_or-take, get_or-append_right, get_or-drop}
 use Rattle.std.proofs.Math.Nat.{mod-eq_of_lt}
 use Rattle.stencil_def.specs.Limits.{IsValue}
 use Rattle.stencil_def.specs.Plane.{Plane, cell}
@@ -14,11 +14,11 @@ use Rattle.stencil_def.specs.declared.rule.Around.{Around}
 use Rattle.stencil_def.specs.declared.rule.Around.TheVariants.{Fixed, Wrap}
 use Rattle.stencil_def.specs.declared.rule.Rule.{Rule}
 use Rattle.stencil_def.specs.Step.{cell_or, place, read}
-use Rattle.cell_lanes.specs.Block.{Part, HoldsMiddle, HoldsOwn, IsPart, SameRow, SameSize, at, height, own_cells, part_of, width, with_cells}
+use Rattle.cell_lanes.specs.Block.{Part, HoldsMiddle, IsPart, SameRow, SameSize, at, height, own_cells, width, with_cells}
 use Rattle.cell_lanes.proofs.BlockFacts.{put-before, put-inside}
 use Rattle.cell_lanes.proofs.RowFacts.{part-at}
 use Rattle.cell_lanes.proofs.WindowFacts.{below-or}
-use Rattle.halo_plan.specs.Elements.{IsWord}
+use Rattle.halo_message.specs.Elements.{IsWord}
 
 -- a value of a grid is one of 64 bits
 pub all-words : (xs : List ℤ) → All IsValue xs → All IsWord xs

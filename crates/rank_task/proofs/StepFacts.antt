@@ -1,14 +1,14 @@
 -- A step of a block whose rows have the grid's reading, and of all blocks.
-use Rattle.std.proofs.Common.{◌≡◌, ◌∙◌, refl, sym, ap, subst, ℕ, ◌+◌, ◌-◌, ◌*◌, ◌<◌, ◌≤◌, ℤ, pos, ◌-ℤ◌, List, length, get_or, set, arith, inl, inr}
+use Rattle.std.proofs.Common.{◌≡◌, ◌∙◌, sym, ap, subst, ℕ, ◌+◌, ◌<◌, pos, ◌-ℤ◌, List, length, set, arith, inl, inr}
 use Rattle.std.proofs.lemmas.Bool.{cases_eq}
 use Rattle.stencil_def.specs.Plane.{Plane, cell}
 use Rattle.stencil_def.specs.declared.rule.Rule.{Rule}
-use Rattle.stencil_def.specs.Step.{fold_plane, next_plane, read}
+use Rattle.stencil_def.specs.Step.{fold_plane, read}
 use Rattle.stencil_def.proofs.FoldFacts.{fold-cols, fold-rows}
-use Rattle.cell_lanes.specs.Block.{Part, Holds, HoldsMiddle, HoldsOwn, HoldsRow, IsInside, IsPart, SameSize, at, height, width}
+use Rattle.cell_lanes.specs.Block.{Part, Holds, HoldsOwn, HoldsRow, IsInside, SameSize, at, height}
 use Rattle.halo_plan.specs.Plan.{IsPlan, Plan, first_row}
 use Rattle.halo_plan.proofs.Planning.{block-some, row-inside}
-use Rattle.rank_task.specs.Blocks.{AreSized, IsSized, OwnRead, AllRead, HoldGrid, Suit, block_at, rows_of}
+use Rattle.rank_task.specs.Blocks.{AreSized, IsSized, OwnRead, HoldGrid, Suit, block_at}
 use Rattle.rank_task.proofs.RowFacts.{read-inside}
 use Rattle.rank_task.proofs.HaloFacts.{at-other, at-set}
 use Rattle.rank_task.proofs.OutsideFacts.{ahead}

@@ -1,5 +1,5 @@
 -- The blocks and the pairs of all ranks while a step is made: for private functions.
-use Rattle.std.specs.Prelude.{◌≡◌, ℕ, ◌+◌, ◌-◌, ◌*◌, ◌<◌, ◌≤◌, ◌==◌, if◌then◌else◌, false, ℤ, pos, List, [], length, slice_get, slice_index_or, Some}
+use Rattle.std.specs.Prelude.{◌≡◌, ℕ, ◌+◌, ◌-◌, ◌*◌, ◌<◌, ◌≤◌, ◌==◌, if◌then◌else◌, false, ℤ, List, [], length, slice_get, slice_index_or, Some}
 use Rattle.std.specs.List.{All}
 use Rattle.part_geometry.specs.Shape.{Shape}
 use Rattle.plain_pair.specs.Kept.{Kept}
@@ -7,7 +7,8 @@ use Rattle.stencil_def.specs.Limits.{IsValue}
 use Rattle.stencil_def.specs.Plane.{Plane}
 use Rattle.stencil_def.specs.declared.rule.Rule.{Rule}
 use Rattle.cell_lanes.specs.Block.{Part, HoldsMiddle, HoldsOwn, IsPart, at, part_of}
-use Rattle.halo_plan.specs.declared.TheConstants.{DOWN, ELEMENT_BYTES}
+use Rattle.halo_message.specs.declared.TheConstants.{ELEMENT_BYTES}
+use Rattle.halo_plan.specs.declared.TheConstants.{DOWN}
 use Rattle.halo_plan.specs.declared.edge.Edge.{Edge}
 use Rattle.halo_plan.specs.Plan.{Plan, elements, first_row, shape_of, values}
 use Rattle.halo_plan.specs.Edges.{edges}

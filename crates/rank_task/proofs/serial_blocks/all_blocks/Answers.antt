@@ -1,5 +1,5 @@
-use Rattle.std.proofs.Common.{◌≡◌, ◌∙◌, ap, ◌+◌, ◌++◌, [], ◌∷◌, length, length-append, arith}
-use Rattle.cell_lanes.specs.Block.{HoldsOwn, Part}
+use Rattle.std.proofs.Common.{◌∙◌, ap, ◌+◌, [], ◌∷◌, length, length-append}
+use Rattle.cell_lanes.specs.Block.{HoldsOwn}
 use Rattle.halo_plan.specs.Plan.{first_row}
 use Rattle.rank_task.specs.Blocks.{IsSized, no_part}
 use Rattle.rank_task.proofs.GridFacts.{pushed}

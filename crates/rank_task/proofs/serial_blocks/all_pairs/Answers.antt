@@ -1,4 +1,4 @@
-use Rattle.std.proofs.Common.{◌≡◌, ◌∙◌, ap, ◌+◌, ◌++◌, [], ◌∷◌, length, length-append, arith}
+use Rattle.std.proofs.Common.{◌∙◌, ap, ◌+◌, [], ◌∷◌, length, length-append}
 use Rattle.halo_plan.specs.Plan.{shape_of}
 use Rattle.rank_task.specs.Blocks.{IsResting, no_pair}
 use Rattle.rank_task.proofs.GridFacts.{pushed}

@@ -2,7 +2,6 @@ use Rattle.std.proofs.Common.{◌≡◌, ◌∙◌, sym, ap, ◌+◌, length, ar
 use Rattle.cell_lanes.specs.Block.{Part}
 use Rattle.stencil_def.specs.Plane.{row_of}
 use Rattle.halo_plan.specs.Plan.{first_row}
-use Rattle.rank_task.specs.Blocks.{rows_of}
 use Rattle.rank_task.proofs.GridFacts.{fill-next, length-row}
 use Rattle.rank_task.proofs.serial_blocks.block_of.Goals as goal
 

@@ -1,10 +1,8 @@
-use Rattle.std.proofs.Common.{◌≡◌, ◌∙◌, sym, ap, subst, ◌+◌, ◌-◌, ◌≤◌, ◌<◌, Some, length, arith}
-use Rattle.std.specs.Prelude.{slice_get, slice_set}
+use Rattle.std.proofs.Common.{◌≡◌, subst, ◌-◌, ◌<◌, Some, length, arith}
+use Rattle.std.specs.Prelude.{slice_get}
 use Rattle.cell_lanes.proofs.WindowFacts.{below-or}
-use Rattle.halo_plan.specs.Plan.{shape_of}
 use Rattle.halo_plan.specs.Edges.{edges}
-use Rattle.rank_task.specs.Blocks.{AreBrought, ArePaired, IsResting, no_pair}
-use Rattle.rank_task.proofs.HaloFacts.{any-default, brought-kept, own-kept, paired-all, paired-next}
+use Rattle.rank_task.proofs.HaloFacts.{brought-kept, own-kept, paired-all, paired-next}
 use Rattle.rank_task.proofs.serial_edges.pass_edges.Goals as goal
 
 pub loop-e-preserved : goal.loop-e-preserved

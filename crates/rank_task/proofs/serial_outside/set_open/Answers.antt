@@ -1,4 +1,4 @@
-use Rattle.std.proofs.Common.{◌≡◌, ◌∙◌, sym, ap, subst, ◌+◌, ◌-◌, arith}
+use Rattle.std.proofs.Common.{◌≡◌, ap, subst, ◌+◌, ◌-◌, arith}
 use Rattle.cell_lanes.proofs.WindowFacts.{below-or}
 use Rattle.halo_plan.specs.Plan.{first_row}
 use Rattle.rank_task.specs.Blocks.{Reads, rows_of}

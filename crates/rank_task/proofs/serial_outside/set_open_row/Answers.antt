@@ -1,4 +1,4 @@
-use Rattle.std.proofs.Common.{◌≡◌, ◌∙◌, sym, ap, subst, get_or, set, arith}
+use Rattle.std.proofs.Common.{◌≡◌, subst, get_or, arith}
 use Rattle.stencil_def.specs.Plane.{Plane}
 use Rattle.cell_lanes.specs.Block.{HoldsMiddle, Part, SameRow, SameSize}
 use Rattle.halo_plan.specs.Plan.{first_row}

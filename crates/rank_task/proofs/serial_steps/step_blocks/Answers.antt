@@ -1,8 +1,8 @@
-use Rattle.std.proofs.Common.{◌≡◌, ◌∙◌, sym, ap, subst, ◌+◌, ◌*◌, ◌<◌, ℕ, get_or, set, arith}
+use Rattle.std.proofs.Common.{◌≡◌, ◌∙◌, sym, ap, subst, ◌<◌, ℕ, get_or, arith}
 use Rattle.stencil_def.specs.Step.{next_plane}
 use Rattle.cell_lanes.specs.Block.{HoldsMiddle, IsInside, Part, SameSize, height}
 use Rattle.halo_plan.specs.Plan.{first_row}
-use Rattle.rank_task.specs.Blocks.{block_at, no_part, rows_of}
+use Rattle.rank_task.specs.Blocks.{block_at, no_part}
 use Rattle.rank_task.proofs.HaloFacts.{any-default, at-other, sized-set}
 use Rattle.rank_task.proofs.StepFacts.{block-inside, next-one}
 use Rattle.rank_task.proofs.serial_steps.step_blocks.Goals as goal

@@ -1,4 +1,4 @@
-use Rattle.std.proofs.Common.{◌≡◌, ◌∙◌, sym, ap, subst, ◌*◌, length, arith}
+use Rattle.std.proofs.Common.{◌≡◌, ◌∙◌, sym, ap, subst, ◌*◌, length}
 use Rattle.std.specs.List.{All, flat_map}
 use Rattle.stencil_def.specs.Limits.{IsValue}
 use Rattle.rank_task.specs.Ranks.{own_values}
