@@ -2,7 +2,7 @@
 -- other, are the grid's.
 use Rattle.std.proofs.Common.{◌≡◌, ◌∙◌, refl, sym, ap, subst, ℕ, zero, suc, ◌+◌, ◌-◌, ◌*◌, ◌<◌, ◌≤◌, ℤ, pos, List, [], ◌∷◌, ◌++◌, length, take, drop, length-take-le, get_or, arith}
 use Rattle.std.specs.List.{flat_map, range_with_len}
-use Rattle.std.proofs.lemmas.List.{drop-take, ext_get_or, flat_map_more, get_or-drop, get_or-take, get_or_append_left, get_or_push, length-drop, take-append-drop, take-take, take_all, take_more}
+use Rattle.std.proofs.lemmas.List.{drop-drop, drop-take, ext_get_or, flat_map_more, get_or-drop, get_or-take, get_or_append_left, get_or_push, length-drop, take-append-drop, take-take, take_all, take_more}
 use Rattle.std.specs.List.{All}
 use Rattle.std.proofs.lemmas.List.Concat.{flat_map-cons}
 use Rattle.std.proofs.lemmas.List.Elements.{All-append, All-drop, All-nil, All-take}
@@ -14,7 +14,8 @@ use Rattle.rank_task.proofs.StepFacts.{suit-next}
 use Rattle.std.proofs.Math.Seq.{take-append_seam}
 use Rattle.std.proofs.lemmas.Nat.{mul-le}
 use Rattle.stencil_def.specs.Plane.{IsPlane, Plane, cell, plane_of, row_of}
-use Rattle.cell_lanes.specs.Block.{HoldsOwnBelow, HoldsOwn, IsPart, Part, at, own_cells, width, with_cells}
+use Rattle.cell_lanes.specs.Block.{HoldsOwn, IsPart, Part, at, own_cells, width, with_cells}
+use Rattle.cell_lanes.specs.Block.{HoldsOwnBelow}
 use Rattle.cell_lanes.proofs.BlockFacts.{own-room}
 use Rattle.cell_lanes.proofs.WindowFacts.{below-or}
 use Rattle.halo_plan.specs.Plan.{IsPlan, Plan, first_row}
@@ -26,24 +27,20 @@ use Rattle.rank_task.proofs.HaloFacts.{first-last, first-zero}
 
 -- ---- parts of a list, one after another
 
+-- what stands from place a up to and without place b
 abbrev pub between : List ℤ → ℕ → ℕ → List ℤ
 between xs a b = take (b - a) (drop a xs)
 
-drop-both : (a n : ℕ) (xs : List ℤ) → drop n (drop a xs) ≡ drop (a + n) xs
-drop-both a n xs =
-    ext_get_or (pos 0) (drop n (drop a xs)) (drop (a + n) xs)
-    (let one = length-drop n (drop a xs) in let two = length-drop a xs in let three = length-drop (a + n) xs in omega arith)
-    (λ i less. let place : a + (n + i) ≡ a + n + i = omega arith in
-    get_or-drop n (drop a xs) i (pos 0) ∙ get_or-drop a xs (n + i) (pos 0) ∙ ap (λ m. get_or xs m (pos 0)) place ∙ sym (get_or-drop (a + n) xs i (pos 0)))
-
+-- two such parts, of which the second begins where the first ends, are one
 join : (xs : List ℤ) (a b c : ℕ) → a ≤ b → b ≤ c → between xs a b ++ between xs b c ≡ between xs a c
 join xs a b c low high =
     let sum : b - a + (c - b) ≡ c - a = omega arith in
     let there : a + (b - a) ≡ b = omega arith in
     (λ i. sym (take-take (b - a) (c - a) (drop a xs) (omega arith)) i
-    ++ (ap (λ m. take (c - b) (drop m xs)) (sym there) ∙ ap (take (c - b)) (sym (drop-both a (b - a) xs)) ∙ sym (drop-take (b - a) (c - b) (drop a xs)) ∙ ap (λ m. drop (b - a) (take m (drop a xs))) sum) i)
+    ++ (ap (λ m. take (c - b) (drop m xs)) (sym there) ∙ ap (take (c - b)) (sym (drop-drop (b - a) a xs)) ∙ sym (drop-take (b - a) (c - b) (drop a xs)) ∙ ap (λ m. drop (b - a) (take m (drop a xs))) sum) i)
     ∙ take-append-drop (b - a) (between xs a c)
 
+-- there is nothing between a place and itself
 empty-between : (xs : List ℤ) (a b : ℕ) → a ≡ b → [] ≡ between xs a b
 empty-between xs a b same = let none : 0 ≡ b - a = omega arith in ap (λ n. take n (drop a xs)) none
 
@@ -64,6 +61,7 @@ join-range xs f t a (suc n) up each =
       omega arith,
     )
 
+-- the same of pieces that are made of the elements of a list
 join-list : {X : Type 0} (xs : List ℤ) (f : X → List ℤ) (d : X) (t : ℕ → ℕ) (a : ℕ) (ys : List X) → ((r : ℕ) → t r ≤ t (r + 1))
     → ((i : ℕ) → i < length ys → f (get_or ys i d) ≡ between xs (t (a + i)) (t (a + i + 1)))
     → (flat_map f ys ≡ between xs (t a) (t (a + length ys))) × (t a ≤ t (a + length ys))
@@ -83,9 +81,11 @@ join-list xs f d t a (y ∷ ys) up each =
 
 -- ---- the rows of a block
 
+-- a row is the part of the values between its first place and the next row's
 row-between : (g : Plane) (r : ℕ) → row_of g r ≡ between g.values (r * g.cols) ((r + 1) * g.cols)
 row-between g r = let e : g.cols ≡ (r + 1) * g.cols - r * g.cols = omega arith in ap (λ n. take n (drop (r * g.cols) g.values)) e
 
+-- a row has as many values as the grid has columns, and its cells are those of the row
 pub length-row : (g : Plane) (r : ℕ) → length g.values ≡ g.rows * g.cols → r < g.rows → length (row_of g r) ≡ g.cols
 length-row g r long less =
     let m = mul-le (r + 1) g.cols g.rows g.cols (omega arith) (omega arith) in
@@ -95,6 +95,7 @@ length-row g r long less =
 pub row-at : (g : Plane) (r col : ℕ) → col < g.cols → get_or (row_of g r) col (pos 0) ≡ cell g r col
 row-at g r col less = get_or-take g.cols (drop (r * g.cols) g.values) col (pos 0) less ∙ get_or-drop (r * g.cols) g.values col (pos 0)
 
+-- and so has an own row of a block
 length-own : (b : Part) (row : ℕ) → IsPart b → row < b.rows → length (own_cells b row) ≡ b.cols
 length-own b row s less =
     let room = own-room b.rows b.cols b.reach row b.values s less in
@@ -102,6 +103,7 @@ length-own b row s less =
     let rest = length-drop start b.values in
     length-take-le b.cols (drop start b.values) (omega arith)
 
+-- where the block has the grid's cells, its own row is the grid's row
 own-row : (g : Plane) (top : ℕ) (b : Part) (row : ℕ) → IsPart b → HoldsOwn g top 0 b → b.cols ≡ g.cols → row < b.rows → length g.values ≡ g.rows * g.cols → top + row < g.rows
     → own_cells b row ≡ row_of g (top + row)
 own-row g top b row s holds wide less long inside =
@@ -110,6 +112,7 @@ own-row g top b row s holds wide less long inside =
     (λ col lt. let low : col < b.cols = omega arith in let none : 0 + col ≡ col = omega arith in
     own-at b row col low ∙ holds row col less low ∙ ap (cell g (top + row)) none ∙ sym (row-at g (top + row) col (omega arith)))
 
+-- and its own rows together are the rows of the grid from its first one on
 own-values : (g : Plane) (top : ℕ) (b : Part) → IsPart b → HoldsOwn g top 0 b → b.cols ≡ g.cols → length g.values ≡ g.rows * g.cols → top + b.rows ≤ g.rows
     → own_values b ≡ between g.values (top * g.cols) ((top + b.rows) * g.cols)
 own-values g top b s holds wide long inside =
@@ -125,6 +128,7 @@ own-values g top b s holds wide long inside =
 
 -- ---- all blocks
 
+-- where all blocks have the rows of a grid, what is gathered from them is that grid
 pub gathered-is : (p : Plan) (g : Plane) (blocks : List Part) → IsPlan p → AreSized p blocks → HoldGrid p g blocks → g.rows ≡ p.rows → g.cols ≡ p.cols → length g.values ≡ p.rows * p.cols
     → gathered p blocks ≡ g
 unfolding gathered
@@ -158,6 +162,7 @@ gathered-is p g blocks v s holds rows cols long =
 
 -- ---- the rows of a block, as they are put
 
+-- one more row of a grid was put at its place in a block
 pub fill-next : (p : Plan) (g : Plane) (i row reach : ℕ) (b new : Part) (cells : List ℤ) → IsSized p i b → HoldsOwnBelow g (first_row p i) 0 row b
     → new ≡ with_cells (reach + row) reach cells b → reach ≡ p.reach → cells ≡ row_of g (first_row p i + row) → length cells ≡ b.cols → g.cols ≡ b.cols → row < b.rows → IsPart new
     → HoldsOwnBelow g (first_row p i) 0 (row + 1) new
@@ -182,6 +187,7 @@ fill-next p g i row reach b new cells s done same far is long wide less fine r c
 
 -- ---- lists that grow
 
+-- a range with one number more at its end
 range-more : (a n : ℕ) → range_with_len a (suc n) ≡ range_with_len a n ++ (a + n) ∷ []
 range-more a zero = let e : a ≡ a + 0 = omega arith in ap (λ (m : ℕ). m ∷ []) e
 range-more a (suc n) = let e : a + 1 + n ≡ a + suc n = omega arith in ap (λ ms. a ∷ ms) (range-more (a + 1) n ∙ ap (λ (m : ℕ). range_with_len (a + 1) n ++ m ∷ []) e)
@@ -204,6 +210,7 @@ pushed P xs ys x d n is long done new j less =
     (λ h. let same : n ≡ j = omega arith in
     subst (P j) (sym (get_or_push xs x d j (long ∙ same))) (subst (λ m. P m x) same new)))
 
+-- one more block
 pub blocks-more : (blocks : List Part) (k : ℕ) (b : Part) (before : List ℤ) → k < length blocks → b ≡ get_or blocks k b → before ≡ flat_map own_values (take k blocks)
     → before ++ own_values b ≡ flat_map own_values (take (k + 1) blocks)
 blocks-more blocks k b before less is done =
@@ -212,18 +219,21 @@ blocks-more blocks k b before less is done =
 
 -- ---- the limits of the grid
 
+-- values in range, also when they are gathered
 all-flat : {X : Type 0} (f : X → List ℤ) (xs : List X) (d : X) → ((i : ℕ) → i < length xs → All IsValue (f (get_or xs i d))) → All IsValue (flat_map f xs)
 all-flat f [] d each = All-nil IsValue
 all-flat f (x ∷ xs) d each =
     subst (All IsValue) (sym (flat_map-cons f x xs))
     (All-append IsValue (f x) (flat_map f xs) (each 0 (omega arith)) (all-flat f xs d (λ i less. each (suc i) (omega arith))))
 
+-- the own values of a block are in range
 all-own : (b : Part) → IsPart b → All IsValue (own_values b)
 all-own b s =
     all-flat (own_cells b) (range_with_len 0 b.rows) 0
     (λ i less. let row = get_or (range_with_len 0 b.rows) i 0 in let start = (b.reach + row) * width b + b.reach in
     All-take IsValue b.cols (drop start b.values) (All-drop IsValue start b.values s.values))
 
+-- what is gathered keeps the limits of a grid
 pub gathered-plane : (p : Plan) (g : Plane) (blocks : List Part) → IsPlan p → AreSized p blocks → gathered p blocks ≡ g → length g.values ≡ p.rows * p.cols → IsPlane (gathered p blocks)
 unfolding gathered
 gathered-plane p g blocks v s same long =
@@ -236,14 +246,12 @@ gathered-plane p g blocks v s same long =
       values = all-flat own_values blocks no_part (λ i less. all-own (block_at blocks i) (s.each i (omega arith)).limits);
     }
 
-pub gathered-size : (p : Plan) (blocks : List Part) → ((gathered p blocks).rows ≡ p.rows) × ((gathered p blocks).cols ≡ p.cols)
-unfolding gathered
-gathered-size p blocks = (refl, refl)
-
+-- as the code makes a grid of the blocks' rows
 pub gathered-from : (p : Plan) (blocks : List Part) (rows cols : ℕ) (values : List ℤ) → rows ≡ p.rows → cols ≡ p.cols → values ≡ flat_map own_values blocks → plane_of rows cols values ≡ gathered p blocks
 unfolding gathered
 gathered-from p blocks rows cols values many wide is = λ i. plane_of (many i) (wide i) (is i)
 
+-- the values of what is gathered
 pub gathered-values : (p : Plan) (blocks : List Part) → (gathered p blocks).values ≡ flat_map own_values blocks
 unfolding gathered
 gathered-values p blocks = refl
@@ -255,6 +263,7 @@ stepped p g rule n blocks v s plane suit holds =
     let later = suit-next p g rule n suit in
     gathered-is p (fold_plane g rule n) blocks v s holds later.rows later.cols (fold-length g rule n plane ∙ (λ i. suit.rows i * suit.cols i))
 
+-- and it keeps the limits
 pub stepped-plane : (p : Plan) (g : Plane) (rule : Rule) (n : ℕ) (blocks : List Part) → IsPlan p → AreSized p blocks → IsPlane g → Suit p g rule → HoldGrid p (fold_plane g rule n) blocks
     → IsPlane (gathered p blocks)
 stepped-plane p g rule n blocks v s plane suit holds =

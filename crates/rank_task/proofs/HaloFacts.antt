@@ -36,9 +36,7 @@ any-default xs i d e less = some-same (get_or xs i d) (get_or xs i e) (sym (slic
     some-same : {Y : Type 0} (a b : Y) → ◌≡◌ {A = Option Y} (Some a) (Some b) → a ≡ b
     some-same a b same = cc
 
-pub element-at : {X : Type 0} (xs : List X) (i : ℕ) (x d : X) → i < length xs → x ≡ get_or xs i x → get_or xs i d ≡ x
-element-at xs i x d less is = any-default xs i d x less ∙ sym is
-
+-- block j is the one that was put there, and the others stay
 pub at-set : (blocks : List Part) (j : ℕ) (b : Part) → j < length blocks → block_at (set blocks j b) j ≡ b
 at-set blocks j b less = get_or-set_same blocks j b no_part less
 
@@ -59,6 +57,7 @@ sized-set p blocks j b s less same fine =
       ];
     }
 
+-- a row of the new block that has the reading has it in the list
 pub reads-set : (p : Plan) (g : Plane) (rule : Rule) (blocks : List Part) (j y : ℕ) (b : Part) → j < length blocks → HoldsMiddle g rule (first_row p j) y b
     → Reads p g rule (set blocks j b) j y
 reads-set p g rule blocks j y b less holds = subst (HoldsMiddle g rule (first_row p j) y) (sym (at-set blocks j b less)) holds
@@ -84,6 +83,7 @@ rows-hold g rule top first n old new size rest done y holds =
 
 -- ---- the edges
 
+-- the first rank's rows begin with the grid's, and the last rank's end with them
 pub first-zero : (p : Plan) → 0 < p.ranks → first_row p 0 ≡ 0
 first-zero p some = let less = div_below (0 * p.rows) p.ranks 1 some (omega arith) in omega arith
 
@@ -103,6 +103,7 @@ wrap-before n h k less few =
     mod-small : (m n : ℕ) → m < n → m % n ≡ m
     mod-small m n less = mod-eq_of_lt less
 
+-- and behind them its first ones
 wrap-behind : (n k : ℕ) → k < n → place Wrap n (pos (n + k)) ≡ place Wrap n (pos k)
 wrap-behind n k less =
     let e : n + k ≡ 1 * n + k = omega arith in
@@ -114,6 +115,7 @@ wrap-behind n k less =
 abbrev pub land : Plan → Edge → ℕ → ℤ
 land p x k = pos (first_row p x.to + (landing p x + k)) -ℤ pos p.reach
 
+-- where it left
 abbrev pub leave : Plan → Edge → ℕ → ℤ
 leave p x k = pos (first_row p x.from + (p.reach + (leaving p x + k))) -ℤ pos p.reach
 
@@ -129,6 +131,7 @@ pub record Brings (p : Plan) (x : Edge) : Type 0 where
 by-plan : (p : Plan) (g : Plane) (rule : Rule) (a : Around) (z : ℤ) → Suit p g rule → p.around ≡ a → place rule.around g.rows z ≡ place a p.rows z
 by-plan p g rule a z s is = ap (λ r. place r g.rows z) (s.around ∙ is) ∙ ap (λ n. place a n z) s.rows
 
+-- an edge to the next rank: the last rows of rank i lie right before those of rank i + 1
 down-next : (p : Plan) (i : ℕ) → IsPlan p → i + 1 < p.ranks → Brings p (down p i (i + 1))
 down-next p i v less =
     let here = block-enough p i v (omega arith) in
@@ -144,6 +147,7 @@ down-next p i v less =
     straight : (a b h k : ℕ) → a + h ≤ b → b + (0 + k) ≡ a + (h + (b - a - h + k))
     straight a b h k fits = omega arith
 
+-- and the first rows of rank i + 1 lie right behind those of rank i
 up-next : (p : Plan) (i : ℕ) → IsPlan p → i + 1 < p.ranks → Brings p (up p i (i + 1))
 up-next p i v less =
     let here = block-enough p i v (omega arith) in
@@ -214,6 +218,7 @@ up-round p i v last two wrap =
     first-is : (a h k : ℕ) → a ≡ 0 → (pos (a + (h + (0 + k))) -ℤ pos h) ≡ pos k
     first-is a h k none = let e : a + (h + (0 + k)) ≡ h + k = omega arith in ap (λ m. pos m -ℤ pos h) e ∙ omega (arith, ints)
 
+-- rows go round where the plan says so
 wrap-is : (a : Around) → is_wrap a ≡ true → a ≡ Wrap
 wrap-is Fixed e = absurd cc
 wrap-is Wrap e = refl
@@ -222,6 +227,7 @@ wrap-is Wrap e = refl
 round-wrap : (p : Plan) → goes_round p ≡ true → p.around ≡ Wrap
 round-wrap p round = wrap-is p.around (and_parts (nat_le 2 p.ranks) (is_wrap p.around) round).1
 
+-- an edge between the last rank and the rank behind it is there only where rows go round
 last-round : (p : Plan) (e i : ℕ) → e < length (edges p) → 2 * i ≤ e → i + 1 ≡ p.ranks → goes_round p ≡ true
 last-round p e i less above last =
     let many = edges-many p in
@@ -230,12 +236,14 @@ last-round p e i less above last =
       | inr plain ↦ let n : length (edges p) ≡ 2 * (p.ranks - 1 + 0) = many ∙ rw plain refl in absurd (omega arith)
     ]
 
+-- the rank behind rank i: the next one, and behind the last one rank 0
 pub behind-next : (p : Plan) (i : ℕ) → (i + 1 ≡ p.ranks → ⊥) → behind p i ≡ i + 1
 behind-next p i apart = let t : (i + 1 == p.ranks) ≡ false = grind (arith, nat_tests) in rw t refl
 
 pub behind-last : (p : Plan) (i : ℕ) → i + 1 ≡ p.ranks → behind p i ≡ 0
 behind-last p i same = let t : (i + 1 == p.ranks) ≡ true = grind (arith, nat_tests) in rw t refl
 
+-- the edge to the rank behind, be it the next one or the first
 down-brings : (p : Plan) (e i : ℕ) → IsPlan p → e < length (edges p) → 2 * i ≤ e → i < p.ranks → Brings p (down p i (behind p i))
 down-brings p e i v less above inside =
     elim (cases_eq (i + 1) p.ranks) [
@@ -243,6 +251,7 @@ down-brings p e i v less above inside =
       | inr apart ↦ subst (λ j. Brings p (down p i j)) (sym (behind-next p i apart)) (down-next p i v (omega arith))
     ]
 
+-- and the edge back
 up-brings : (p : Plan) (e i : ℕ) → IsPlan p → e < length (edges p) → 2 * i ≤ e → i < p.ranks → Brings p (up p i (behind p i))
 up-brings p e i v less above inside =
     elim (cases_eq (i + 1) p.ranks) [
@@ -250,6 +259,7 @@ up-brings p e i v less above inside =
       | inr apart ↦ subst (λ j. Brings p (up p i j)) (sym (behind-next p i apart)) (up-next p i v (omega arith))
     ]
 
+-- an edge that is there is one edge
 pub edge-same : (x y : Edge) → ◌≡◌ {A = Option Edge} (Some x) (Some y) → x ≡ y
 edge-same x y e = cc
 
@@ -294,6 +304,7 @@ passed-reads p g rule x old b s brings passed suit own k less col lt =
     ∙ read-place g rule (leave p x k) (land p x k) (pos col) (sym (brings.same g rule k suit less))
     ∙ ap (λ h. read g rule (pos (first_row p x.to + (landing p x + k)) -ℤ pos h) (pos col)) (sym far)
 
+-- what had the reading keeps it, since own rows and other halo rows stay
 pub passed-keeps : (p : Plan) (g : Plane) (rule : Rule) (x : Edge) (old : List Part) (b : Part) → AreSized p old → Brings p x → EdgePassed p x old b → Suit p g rule → OwnRead p g rule old
     → Keeps p g rule old (set old x.to b)
 passed-keeps p g rule x old b s brings passed suit own =
@@ -302,6 +313,7 @@ passed-keeps p g rule x old b s brings passed suit own =
     (rows-hold g rule (first_row p x.to) (landing p x) p.reach (block_at old x.to) b passed.size passed.rest
     (passed-reads p g rule x old b s brings passed suit own))
 
+-- so the edge's rows are in the receiver's halo
 pub passed-brought : (p : Plan) (g : Plane) (rule : Rule) (x : Edge) (old : List Part) (b : Part) → AreSized p old → Brings p x → EdgePassed p x old b → Suit p g rule → OwnRead p g rule old
     → IsBrought p g rule (set old x.to b) x
 passed-brought p g rule x old b s brings passed suit own k less =
@@ -310,6 +322,7 @@ passed-brought p g rule x old b s brings passed suit own k less =
 
 -- what is kept
 
+-- own rows keep the reading, and so do the rows that edges brought
 pub own-kept : (p : Plan) (g : Plane) (rule : Rule) (old new : List Part) → Keeps p g rule old new → OwnRead p g rule old → OwnRead p g rule new
 own-kept p g rule old new keeps own i row l m = keeps i (p.reach + row) (own i row l m)
 
@@ -318,6 +331,7 @@ brought-kept p g rule old new n keeps brought e x l is k m = keeps x.to (landing
 
 -- ---- as the code reads them
 
+-- the row from which on rows leave, and the row from which on they are put
 pub leaving-is : (p : Plan) (x : Edge) (first rows reach : ℕ) → first ≡ (if x.tag == DOWN then rows - reach else 0) → rows ≡ rows_of p x.from → reach ≡ p.reach → first ≡ leaving p x
 leaving-is p x first rows reach is many far = is ∙ (λ i. if x.tag == DOWN then many i - far i else 0)
 

@@ -45,6 +45,7 @@ outside-reads g rule top y b new rows row reach out same far fine less long same
         ap (λ xs. get_or xs col (pos 0)) (own r e) ∙ own-at b r col lt ∙ cells r col e lt
         ∙ sym (read-some g rule row r col (ap (λ n. place rule.around n row) same-rows ∙ e) (omega arith))
 
+-- the other rows stay as they were
 pub outside-rest : (b new : Part) (y reach z : ℕ) (out : List ℤ) → new ≡ with_cells y reach out b → reach ≡ b.reach → IsPart b → y < height b → length out ≡ b.cols
     → (z < y) ⊎ (y + 1 ≤ z) → SameRow z b new
 outside-rest b new y reach z out same far fine less long apart =
@@ -54,18 +55,21 @@ outside-rest b new y reach z out same far fine less long apart =
 
 -- ---- which rows lie outside
 
+-- no row of the grid stands before the first one or behind the last one, where it ends at its edges
 pub fixed-before : (n h k : ℕ) → k < h → place Fixed n (pos k -ℤ pos h) ≡ None
 fixed-before n h k less = let e : (pos k -ℤ pos h) ≡ negsuc (h - k - 1) = omega (arith, ints) in ap (place Fixed n) e
 
 pub fixed-behind : (n k : ℕ) → place Fixed n (pos (n + k)) ≡ None
 fixed-behind n k = let t : nat_lt (n + k) n ≡ false = le-ltb (n + k) n (omega arith) in rw t refl
 
+-- a place holds a row or none
 not-some : (o : Option ℕ) (r : ℕ) → o ≡ None → o ≡ Some r → ⊥
 not-some o r none some = clash r (sym none ∙ some)
   where
     clash : (r : ℕ) → ◌≡◌ {A = Option ℕ} None (Some r) → ⊥
     clash r e = cc
 
+-- what is not round is fixed
 around-fixed : (a : Around) → is_wrap a ≡ false → a ≡ Fixed
 around-fixed Fixed e = refl
 around-fixed Wrap e = absurd cc
@@ -103,6 +107,7 @@ last-rows p v =
     let low = block-some p (p.ranks - 1) v in
     omega arith
 
+-- counted from the halo's first row, own row r stands the halo's height further
 pub ahead : (a h r : ℕ) → (pos (a + (h + r)) -ℤ pos h) ≡ pos (a + r)
 ahead a h r = omega (arith, ints)
 
@@ -138,14 +143,17 @@ down-there p i less =
     let many = edges-many p in
     edge-even p (2 * i) i (omega arith) refl ∙ ap (λ j. Some (down p i j)) (behind-next p i (λ e. omega arith))
 
+-- the edge that brings rank i the rows behind its own
 up-there : (p : Plan) (i : ℕ) → i + 1 < p.ranks → slice_get (edges p) (2 * i + 1) ≡ Some (up p i (i + 1))
 up-there p i less =
     let many = edges-many p in
     edge-odd p (2 * i + 1) i (omega arith) refl ∙ ap (λ j. Some (up p i j)) (behind-next p i (λ e. omega arith))
 
+-- where rows go round there are two edges for each rank
 round-many : (p : Plan) → goes_round p ≡ true → length (edges p) ≡ 2 * (p.ranks - 1 + 1)
 round-many p round = edges-many p ∙ rw round refl
 
+-- and round the grid: the rows before those of the first rank, and behind those of the last
 down-first : (p : Plan) (i : ℕ) → goes_round p ≡ true → i + 1 ≡ p.ranks → slice_get (edges p) (2 * i) ≡ Some (down p i 0)
 down-first p i round last =
     let many = round-many p round in
@@ -222,6 +230,7 @@ open-own p rule blocks i r place-at rows b v s plain around reach less same many
     let size = ap (λ (q : Part). q.rows) same ∙ (s.each i less).rows in
     (alone, omega arith)
 
+-- so a row that was set as the code sets it has the reading
 pub open-holds : (p : Plan) (g : Plane) (rule : Rule) (blocks : List Part) (i y place-at rows : ℕ) (b new : Part) → IsPlan p → AreSized p blocks → goes_round p ≡ false → Suit p g rule → OwnRead p g rule blocks
     → i < p.ranks → b ≡ block_at blocks i → rows ≡ p.rows → first_row p i + y ≡ place-at → place Fixed p.rows (pos place-at -ℤ pos p.reach) ≡ None
     → (g.rows ≡ rows → g.cols ≡ b.cols → (pos (first_row p i + y) -ℤ pos b.reach) ≡ (pos place-at -ℤ pos rule.weights.reach)

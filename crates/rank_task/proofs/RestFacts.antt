@@ -22,6 +22,7 @@ use Rattle.plain_pair.proofs.Rounds.{is_marked-none, needed_below}
 use Rattle.halo_message.specs.Passing.{RestsAt}
 use Rattle.rank_task.specs.Blocks.{IsResting}
 
+-- what it keeps are the numbers of its history
 pub resting-from : (g : Shape) (k : ℕ) (pair : Kept) → RestsAt g k pair → IsResting g k pair
 resting-from g k pair s = record {
   shape = s.shape;
@@ -37,6 +38,7 @@ marks_of : (ℕ → Bool) → ℕ → Round
 marks_of f zero = no_marks
 marks_of f (suc n) = cond (f n) (rounds.insert (marks_of f n) n []) (marks_of f n)
 
+-- those from n on are not marked, and of those below n the test says it
 none-above : (f : ℕ → Bool) (n p : ℕ) → n ≤ p → is_marked (marks_of f n) p ≡ false
 unfolding marks_of
 none-above f zero p above = is_marked-none p
@@ -66,9 +68,11 @@ set_of : (ℕ → Bool) → ℕ → Parts
 set_of f zero = no_parts
 set_of f (suc n) = cond (f n) (parts.insert (set_of f n) n) (set_of f n)
 
+-- the set with one number more
 contains-more : (s : Parts) (n q : ℕ) → parts.contains (parts.insert s n) q ≡ ((q == n) || parts.contains s q)
 contains-more s n q = parts.contains-insert nat_cmp_total s n q ∙ ap (λ b. b || parts.contains s q) (ties q n)
 
+-- those from n on are not among them, and of those below n the test says it
 set-above : (f : ℕ → Bool) (n q : ℕ) → n ≤ q → parts.contains (set_of f n) q ≡ false
 unfolding set_of
 set-above f zero q above = parts.contains-empty nat_cmp q
@@ -101,6 +105,7 @@ out-all g v =
     (λ i low high. list_all-range (is_marked (marks_of (λ _. true) g.send_parts)) (first_part g i) (need_count g i)
     (λ p above below. marks-are (λ _. true) g.send_parts p (needed_below g v i p (omega arith) below above)))
 
+-- of a round with the marks that are kept, those that are whole
 out-kept : (g : Shape) (marks : List Bool) → IsShape g → round_out g (marks_of (has marks) g.send_parts) ≡ count_by (is_whole g marks) (range_with_len 0 (pieces g))
 unfolding round_out is_out is_whole needed
 out-kept g marks v =
@@ -113,6 +118,7 @@ rounds_of : Shape → ℕ → List Bool → List Round
 rounds_of g zero marks = []
 rounds_of g (suc n) marks = replicate n (marks_of (λ _. true) g.send_parts) ++ marks_of (has marks) g.send_parts ∷ []
 
+-- there are k of them
 rounds-many : (g : Shape) (k : ℕ) (marks : List Bool) → length (rounds_of g k marks) ≡ k
 unfolding rounds_of
 rounds-many g zero marks = refl
@@ -120,6 +126,7 @@ rounds-many g (suc n) marks =
     length-append (replicate n (marks_of (λ _. true) g.send_parts)) (marks_of (has marks) g.send_parts ∷ [])
     ∙ ap (λ m. m + 1) (length-replicate n (marks_of (λ _. true) g.send_parts)) ∙ omega arith
 
+-- the history of a pair that rests after k rounds, by what it keeps
 rested : Kept → ℕ → Record
 rested pair k = record {
   rounds = rounds_of pair.shape k pair.marked;
@@ -131,6 +138,7 @@ rested pair k = record {
   back = set_of (has pair.back) pair.shape.recv_parts;
 }
 
+-- as many pieces are out of it as the pair keeps
 out-rested : (pair : Kept) (k : ℕ) → IsShape pair.shape → pair.sent ≡ k → kept_out pair ≡ pieces_out pair.shape (rested pair k)
 unfolding kept_out pieces_out rested rounds_of
 out-rested pair zero v sent = rw sent refl
@@ -147,6 +155,7 @@ out-rested pair (suc n) v sent =
     ∙ (λ i. sum_by-replicate (round_out g) n full i + out-kept g pair.marked v i)
     ∙ ap (λ m. n * m + count) (out-all g v)))
 
+-- a pair with these numbers stands for that history
 pub rests-from : (g : Shape) (k : ℕ) (pair : Kept) → IsShape g → IsResting g k pair → RestsAt g k pair
 unfolding rested
 rests-from g k pair v s =

@@ -38,6 +38,7 @@ pub record RowsCopied (b : Part) (first n : ℕ) (out : List ℤ) : Type 0 where
   pub rows : (k col : ℕ) → k < n → col < b.cols → get_or out (k * b.cols + col) (pos 0) ≡ at b (b.reach + (first + k)) (b.reach + col)
   pub values : All IsValue out
 
+-- one more row was copied
 pub copy-next : (b : Part) (first k start n : ℕ) (out new : List ℤ) → RowsCopied b first k out → start ≡ k * b.cols → n ≡ b.cols → start + n ≤ length out
     → new ≡ own_cells b (first + k) → length new ≡ n → All IsValue (take start out ++ (new ++ drop n (drop start out)))
     → RowsCopied b first (k + 1) (take start out ++ (new ++ drop n (drop start out)))
@@ -65,6 +66,7 @@ with-inside b y x col cells room less =
     ap (λ n. get_or (take start b.values ++ (cells ++ drop (start + length cells) b.values)) n (pos 0)) place
     ∙ part-at b.values cells (drop (start + length cells) b.values) start col room less
 
+-- a place before what was put, and a place behind it
 with-before : (start i : ℕ) (xs new rest : List ℤ) → start ≤ length xs → i < start → get_or (take start xs ++ (new ++ rest)) i (pos 0) ≡ get_or xs i (pos 0)
 with-before start i xs new rest room less =
     let size = length-take-le start xs room in
@@ -104,6 +106,7 @@ pub record RowsPut (old : Part) (first n : ℕ) (values : List ℤ) (b : Part) :
   pub size : SameSize old b
   pub limits : IsPart b
 
+-- no row was put yet, and one more was
 pub put-first : (b : Part) (first : ℕ) (rows : List ℤ) → IsPart b → RowsPut b first 0 rows b
 put-first b first rows s = record {
   rows = λ k col less lt. absurd (omega arith);
@@ -151,6 +154,7 @@ put-next old b new first k start n reach rows cells s place wide far is long les
 
 -- ---- the reading of a grid
 
+-- a row of the grid stands at its own place
 place-own : (around : Around) (n k : ℕ) → k < n → place around n (pos k) ≡ Some k
 place-own Fixed n k less = let t : nat_lt k n ≡ true = lt-ltb k n less in rw t refl
 place-own Wrap n k less = ap (λ (m : ℕ). Some m) (mod-eq_of_lt less)

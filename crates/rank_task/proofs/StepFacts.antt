@@ -45,6 +45,7 @@ own-read p g rule blocks v s suit holds i row less inside col lt =
     ∙ ap (λ z. read g rule z (pos col)) (sym (ahead (first_row p i) p.reach row))
     ∙ ap (λ n. read g rule (pos (first_row p i + (p.reach + row)) -ℤ pos n) (pos col)) (sym h)
 
+-- another block of the size lies inside the grid too
 pub inside-same : (g : Plane) (top : ℕ) (old new : Part) → SameSize old new → IsInside g top 0 old → IsInside g top 0 new
 inside-same g top old new size inside =
     let r = size.rows in let w = size.cols in let a = inside.rows_fit in let b = inside.cols_fit in

@@ -1,5 +1,6 @@
 -- The blocks and the pairs of all ranks while a step is made: for private functions.
-use Rattle.std.specs.Prelude.{◌≡◌, ℕ, ◌+◌, ◌-◌, ◌*◌, ◌<◌, ◌≤◌, ◌==◌, if◌then◌else◌, false, ℤ, List, [], length, slice_get, slice_index_or, Some}
+use Rattle.std.specs.Prelude.{◌≡◌, ℕ, ◌+◌, ◌-◌, ◌*◌, ◌<◌, ◌≤◌, ◌==◌, if◌then◌else◌, false, ℤ, List, []}
+use Rattle.std.specs.Prelude.{length, slice_get, slice_index_or, Some}
 use Rattle.std.specs.List.{All}
 use Rattle.part_geometry.specs.Shape.{Shape}
 use Rattle.plain_pair.specs.Kept.{Kept}
