@@ -87,8 +87,8 @@ fn stencil<H: Shelf>(alloc: Global, words: &StencilWords, shelf: &mut H) -> Resu
     ensures kept { KeepsCount (H.faults shelf.old) (H.faults shelf.new) result }
 {
     let inputs = read_inputs(alloc, &words.source, shelf)?;
-    let _ = plan_of(words, &inputs)?;
-    match stencil_output(alloc, words, &inputs) {
+    let plan = plan_of(words, &inputs)?;
+    match stencil_output(alloc, words, &inputs, plan) {
         Ok(output) => Ok(output),
         Err(_) => Err(Note::OutOfMemory),
     }
