@@ -1,9 +1,14 @@
 //! Runs over a shelf and sinks in memory, in which each call of the outside fails in turn.
 
+ghost use Rattle.std.specs.Prelude.{◌<◌, ◌≤◌};
+
 use part_io::{MemShelf, MemSink};
 use std::alloc::{AllocError, Global};
 use std::test::Fail;
 use stencil_top::run_serial;
+
+/// Weights that reach 2, no two rows or columns of them alike.
+const MIXED: &[u8] = b"3,-1,4,-1,5\n-9,2,6,-5,3\n5,-8,9,7,-9\n3,2,-3,8,4\n-6,2,6,-4,3\n";
 
 /// The words of a command line, which stand between spaces.
 fn words(alloc: Global, text: &str) -> Result<Vec<String>, AllocError> {
@@ -14,11 +19,12 @@ fn words(alloc: Global, text: &str) -> Result<Vec<String>, AllocError> {
     Ok(words)
 }
 
-/// A shelf with a grid, weights and a script, whose reads of these numbers fail.
+/// A shelf with a grid, weights, more weights and a script, whose reads of these numbers fail.
 fn shelf(alloc: Global, failing: &[u32]) -> Result<MemShelf, AllocError> {
     let mut shelf = MemShelf::new(alloc, Vec::from_slice(alloc, failing)?);
     shelf.put("g.csv", b"0,0,0\n0,1,0\n0,0,0\n")?;
     shelf.put("w.csv", b"0,1,0\n1,0,1\n0,1,0\n")?;
+    shelf.put("v.csv", MIXED)?;
     shelf.put("s.txt", b"world 2 1 1\nsend a 0 1 7 0 3 4\nend\n")?;
     Ok(shelf)
 }
@@ -144,6 +150,77 @@ fn each_call_of_the_outside_may_fail(rt: HostRuntime) -> Result<(), Fail> {
     for (line, reads, out, notes, wanted) in runs {
         let got = ended(rt.alloc(), line, reads, out, notes)?;
         assert_eq!(rt; got.as_str(), wanted);
+    }
+    Ok(())
+}
+
+/// Numbers that look random, the same in each run.
+#[derive(Drop)]
+struct Draw {
+    state: u32,
+}
+
+impl Draw {
+    /// The next number, below `end`.
+    fn below(&mut self, end: u32) -> u32
+        requires { 1 ≤ end }
+        ensures { result < end }
+    {
+        self.state = self.state.wrapping_mul(1_103_515_245).wrapping_add(12_345);
+        (self.state >> 16) % end
+    }
+
+    /// One of these.
+    fn one_of(&mut self, choices: [&'static str; 4]) -> &'static str {
+        choices[self.below(4) as usize]
+    }
+}
+
+/// A stencil of drawn numbers.
+fn drawn_stencil(
+    alloc: Global,
+    draw: &mut Draw,
+    reach: u32,
+    rows: u32,
+) -> Result<String, AllocError> {
+    let weights = if reach == 2 { "v.csv" } else { "w.csv" };
+    let seed = draw.below(1000);
+    let cols = 1 + draw.below(10);
+    let steps = draw.below(7);
+    let div = draw.one_of(["1", "8", "9", "30"]);
+    let around = draw.one_of(["fixed", "wrap", "wrap", "fixed"]);
+    format!(in alloc;
+        "stencil --make {seed},{rows},{cols} --weights {weights} --steps {steps} --div {div} --edge=-4 --around {around}"
+    )
+}
+
+/// A plan of drawn numbers.
+fn drawn_plan(alloc: Global, draw: &mut Draw, most: u32) -> Result<String, AllocError> {
+    let ranks = 1 + draw.below(most.clamp(1, 64));
+    let send = draw.one_of(["1", "2", "3", "8"]);
+    let recv = draw.one_of(["1", "2", "5", "12"]);
+    let grain = draw.one_of(["1", "8", "20", "1000"]);
+    let depth = 1 + draw.below(4);
+    format!(in alloc;
+        "--ranks {ranks} --send-parts {send} --recv-parts {recv} --grain {grain} --depth {depth}"
+    )
+}
+
+#[test]
+fn ranks_print_what_one_thread_prints(rt: HostRuntime) -> Result<(), Fail> {
+    let alloc = rt.alloc();
+    let whole: (u32, &[u32]) = (200, &[]);
+    let mut draw = Draw { state: 1 };
+    for case in 0..80 {
+        let reach = 1 + case % 2;
+        let rows = reach + draw.below(12);
+        let alone = drawn_stencil(alloc, &mut draw, reach, rows)?;
+        let plan = drawn_plan(alloc, &mut draw, rows / reach)?;
+        let shared = format!(in alloc; "{alone} {plan}")?;
+        let wanted = ended(alloc, &alone, &[], whole, &[])?;
+        let got = ended(alloc, &shared, &[], whole, &[])?;
+        assert!(rt; wanted.starts_with("0 "), "{alone}: {wanted}");
+        assert_eq!(rt; got.as_str(), wanted.as_str(), "{shared}");
     }
     Ok(())
 }
