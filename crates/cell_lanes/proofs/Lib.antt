@@ -7,6 +7,7 @@ pub mod ProductFacts
 pub mod RowFacts
 pub mod SplitFacts
 pub mod PaddedFacts
+pub mod PlaceFacts
 pub mod ReadyFacts
 pub mod ReciprocalFacts
 pub mod WindowFacts

@@ -71,6 +71,10 @@ with_cells y x cells b = record b {
   values = take (y * width b + x) b.values ++ (cells ++ drop (y * width b + x + length cells) b.values);
 }
 
+-- so many values of row y, from column x on
+abbrev pub cells_at : Part → ℕ → ℕ → ℕ → List ℤ
+cells_at b y x len = take len (drop (y * width b + x) b.values)
+
 -- the own cells of a row, from the left
 abbrev pub own_cells : Part → ℕ → List ℤ
 own_cells b row = take b.cols (drop ((b.reach + row) * width b + b.reach) b.values)

@@ -9,7 +9,7 @@ ghost use Rattle.stencil_def.specs.Plane.{Plane, IsPlane};
 ghost use Rattle.stencil_def.specs.Step.{next_plane};
 ghost use Rattle.cell_lanes.specs.Block.{Holds, HoldsMiddle, HoldsOwn, HoldsOwnBelow, HoldsRow};
 ghost use Rattle.cell_lanes.specs.Block.{IsInside, IsPart, SameRow, SameSize};
-ghost use Rattle.cell_lanes.specs.Block.{height, own_cells, part_of, width, with_cells};
+ghost use Rattle.cell_lanes.specs.Block.{cells_at, height, own_cells, part_of, width, with_cells};
 ghost use Rattle.cell_lanes.specs.Change.{IsChange, change_within};
 ghost use Rattle.cell_lanes.specs.Padding.{end_or, with_ends};
 
@@ -284,6 +284,18 @@ impl Block {
     {
         let start = ((self.reach + row) * (self.cols + 2 * self.reach) + self.reach) as usize;
         &self.values[start..start + self.cols as usize]
+    }
+
+    /// So many values of row `y`, from column `x` on, both counted from the halo's first.
+    pub fn row_range(&self, y: u32, x: u32, len: u32) -> &[i64]
+        requires row { y < height self.now }
+        requires room { x + len ≤ width self.now }
+        ensures value { result.now ≡ cells_at self.now y x len }
+        ensures length { length result.now ≡ len }
+        ensures limits { All IsValue result.now }
+    {
+        let start = (y * (self.cols + 2 * self.reach) + x) as usize;
+        &self.values[start..start + len as usize]
     }
 
     /// Puts values, each from -10^12 to 10^12, into row `y` from column `x` on, both counted from the halo's first.
