@@ -183,14 +183,14 @@ fn drawn_stencil(
     reach: u32,
     rows: u32,
 ) -> Result<String, AllocError> {
-    let weights = if reach == 2 { "v.csv" } else { "w.csv" };
+    let file = if reach == 2 { "v.csv" } else { "w.csv" };
     let seed = draw.below(1000);
     let cols = 1 + draw.below(10);
     let steps = draw.below(7);
     let div = draw.one_of(["1", "8", "9", "30"]);
     let around = draw.one_of(["fixed", "wrap", "wrap", "fixed"]);
     format!(in alloc;
-        "stencil --make {seed},{rows},{cols} --weights {weights} --steps {steps} --div {div} --edge=-4 --around {around}"
+        "stencil --make {seed},{rows},{cols} --weights {file} --steps {steps} --div {div} --edge 7 --around {around}"
     )
 }
 
