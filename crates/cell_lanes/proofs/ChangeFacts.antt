@@ -1,5 +1,6 @@
 -- The greatest of some numbers, by how many there are: one more of them makes it the greater of what it was and that
--- number, so a loop keeps it, and by induction it is a bound that one of them meets.
+-- number, so a loop keeps it, and by induction it is a bound that one of them meets. That of two parts, one behind the
+-- other, is the greater of both.
 use Rattle.std.proofs.Common.{◌≡◌, ◌∙◌, refl, sym, ap, subst, ℕ, zero, suc, ◌+◌, ◌-◌, ◌*◌, ◌<◌, ◌≤◌, max, ℤ, pos, ◌-ℤ◌, ◌<ℤ◌, cond, unsigned_abs, List, length, take, drop, get_or, to_z, of_z, w64, add-one, arith}
 use Rattle.std.specs.List.{All}
 use Rattle.std.specs.declared.cmp.Ordering.{Ordering}
@@ -75,6 +76,15 @@ ranked a b Greater h = omega (arith, ints)
 
 pub greater-is : (a b : ℕ) → ord_max int_cmp (pos a) (pos b) ≡ pos (max a b)
 greater-is a b = ranked a b (int_cmp (pos b) (pos a)) (int_ranks (pos b) (pos a))
+
+-- the greatest of some numbers and of those behind them
+greatest-append : (a b : ℕ) (f : ℕ → ℕ) → greatest_below (a + b) f ≡ max (greatest_below a f) (greatest_below b (λ k. f (a + k)))
+unfolding greatest_below
+greatest-append a zero f = let e : a + 0 ≡ a = omega arith in ap (λ n. greatest_below n f) e ∙ omega arith
+greatest-append a (suc b) f =
+    let e : a + suc b ≡ suc (a + b) = omega arith in
+    let rest = greatest-append a b f in
+    ap (λ n. greatest_below n f) e ∙ omega arith
 
 -- the difference of two values in range
 pub difference-small : (a b : ℤ) → IsValue a → IsValue b → unsigned_abs (b -ℤ a) ≤ 2000000000000
@@ -158,17 +168,33 @@ change-kept most step result p q greater =
 pub rows-none : (old new : Plane) (top left cols : ℕ) → pos 0 ≡ pos (change_within old new top 0 left cols)
 rows-none old new top left cols = ap (λ (m : ℕ). pos m) (sym (greatest-none (λ r. row_change old new left cols (top + r))))
 
--- that of one more row, as code keeps it
+-- the greater of two changes, as code keeps it
+pub greater-joined : (a b : ℕ) (most step result : ℤ) → IsChange most → IsChange step → most ≡ pos a → step ≡ pos b
+    → result ≡ ord_max int_cmp most (to_z w64 (of_z w64 step)) → to_z w64 (of_z w64 result) ≡ pos (max a b)
+greater-joined a b most step result p q is met greater =
+    change-back result (greater-kept most step result p q greater)
+    ∙ greater ∙ ap (λ z. ord_max int_cmp z (to_z w64 (of_z w64 step))) is
+    ∙ ap (ord_max int_cmp (pos a)) (change-back step q ∙ met)
+    ∙ greater-is a b
+
+-- that of one more row
 pub change-more : (old new : Plane) (top left cols n : ℕ) (most step result : ℤ) → IsChange most → IsChange step
     → most ≡ pos (change_within old new top n left cols) → step ≡ pos (row_change old new left cols (top + n))
     → result ≡ ord_max int_cmp most (to_z w64 (of_z w64 step))
     → to_z w64 (of_z w64 result) ≡ pos (change_within old new top (n + 1) left cols)
 change-more old new top left cols n most step result p q is row greater =
-    change-back result (greater-kept most step result p q greater)
-    ∙ greater ∙ ap (λ z. ord_max int_cmp z (to_z w64 (of_z w64 step))) is
-    ∙ ap (ord_max int_cmp (pos (change_within old new top n left cols))) (change-back step q ∙ row)
-    ∙ greater-is (change_within old new top n left cols) (row_change old new left cols (top + n))
+    greater-joined (change_within old new top n left cols) (row_change old new left cols (top + n)) most step result p q is row greater
     ∙ ap (λ (m : ℕ). pos m) (sym (greatest-more n (λ r. row_change old new left cols (top + r))))
+
+-- the change of rows, and of rows below them
+pub change-append : (old new : Plane) (top rows more left cols : ℕ)
+    → change_within old new top (rows + more) left cols ≡ max (change_within old new top rows left cols) (change_within old new (top + rows) more left cols)
+change-append old new top rows more left cols =
+    let f : ℕ → ℕ = λ r. row_change old new left cols (top + r) in
+    let same : greatest_below more (λ k. f (rows + k)) ≡ change_within old new (top + rows) more left cols =
+    greatest-same more (λ k. f (rows + k)) (λ k. row_change old new left cols (top + rows + k))
+    (λ k l. let e : top + (rows + k) ≡ top + rows + k = omega arith in ap (row_change old new left cols) e) in
+    greatest-append rows more f ∙ ap (max (change_within old new top rows left cols)) same
 
 -- ---- the padded grid
 

@@ -256,18 +256,25 @@ pub gathered-values : (p : Plan) (blocks : List Part) → (gathered p blocks).va
 unfolding gathered
 gathered-values p blocks = refl
 
--- after some steps
+-- the blocks after n steps of a grid: what is gathered from them is the grid after the steps, and they have its rows
+pub record AreAfter (p : Plan) (g : Plane) (rule : Rule) (n : ℕ) (blocks : List Part) : Type 0 where
+  pub grid : gathered p blocks ≡ fold_plane g rule n
+  pub plane : IsPlane (gathered p blocks)
+  pub suit : Suit p (gathered p blocks) rule
+  pub own : HoldGrid p (gathered p blocks) blocks
+
 pub stepped : (p : Plan) (g : Plane) (rule : Rule) (n : ℕ) (blocks : List Part) → IsPlan p → AreSized p blocks → IsPlane g → Suit p g rule → HoldGrid p (fold_plane g rule n) blocks
-    → gathered p blocks ≡ fold_plane g rule n
+    → AreAfter p g rule n blocks
 stepped p g rule n blocks v s plane suit holds =
     let later = suit-next p g rule n suit in
-    gathered-is p (fold_plane g rule n) blocks v s holds later.rows later.cols (fold-length g rule n plane ∙ (λ i. suit.rows i * suit.cols i))
-
--- and it keeps the limits
-pub stepped-plane : (p : Plan) (g : Plane) (rule : Rule) (n : ℕ) (blocks : List Part) → IsPlan p → AreSized p blocks → IsPlane g → Suit p g rule → HoldGrid p (fold_plane g rule n) blocks
-    → IsPlane (gathered p blocks)
-stepped-plane p g rule n blocks v s plane suit holds =
-    gathered-plane p (fold_plane g rule n) blocks v s (stepped p g rule n blocks v s plane suit holds) (fold-length g rule n plane ∙ (λ i. suit.rows i * suit.cols i))
+    let long = fold-length g rule n plane ∙ (λ i. suit.rows i * suit.cols i) in
+    let same = gathered-is p (fold_plane g rule n) blocks v s holds later.rows later.cols long in
+    record {
+      grid = same;
+      plane = gathered-plane p (fold_plane g rule n) blocks v s same long;
+      suit = subst (λ h. Suit p h rule) (sym same) later;
+      own = subst (λ h. HoldGrid p h blocks) (sym same) holds;
+    }
 
 -- what was written back into a vector of the same length
 pub written : {X : Type 0} (len : ℕ) (old xs : List X) → len ≡ length old → length xs ≡ length old → take len (xs ++ drop (length xs) old) ≡ xs

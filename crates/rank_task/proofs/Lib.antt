@@ -4,3 +4,4 @@ pub mod RestFacts
 pub mod OutsideFacts
 pub mod StepFacts
 pub mod GridFacts
+pub mod MostFacts

@@ -3,7 +3,8 @@ use Rattle.std.proofs.Common.{◌≡◌, ◌∙◌, sym, ap, subst, ℕ, ◌+◌
 use Rattle.std.proofs.lemmas.Bool.{cases_eq}
 use Rattle.stencil_def.specs.Plane.{Plane, cell}
 use Rattle.stencil_def.specs.declared.rule.Rule.{Rule}
-use Rattle.stencil_def.specs.Step.{fold_plane, read}
+use Rattle.stencil_def.specs.Step.{fold_plane, next_plane, read}
+use Rattle.stencil_def.proofs.StepFacts.{fold-more, fold-none}
 use Rattle.stencil_def.proofs.FoldFacts.{fold-cols, fold-rows}
 use Rattle.cell_lanes.specs.Block.{Part, Holds, HoldsOwn, HoldsRow, IsInside, SameSize, at, height}
 use Rattle.halo_plan.specs.Plan.{IsPlan, Plan, first_row}
@@ -62,3 +63,7 @@ next-one p g i blocks b less done new j low = elim (cases_eq j i) [
 -- the grid after a step has the same size
 pub suit-next : (p : Plan) (g : Plane) (rule : Rule) (n : ℕ) → Suit p g rule → Suit p (fold_plane g rule n) rule
 suit-next p g rule n s = record { rows = fold-rows g rule n ∙ s.rows; cols = fold-cols g rule n ∙ s.cols; reach = s.reach; around = s.around }
+
+-- the grid after one step
+pub fold-one : (g : Plane) (rule : Rule) → fold_plane g rule 1 ≡ next_plane g rule
+fold-one g rule = fold-more g rule 0 ∙ ap (λ h. next_plane h rule) (fold-none g rule)

@@ -1,12 +1,13 @@
 //! All ranks of a plan in one thread.
 
-ghost use Rattle.std.specs.Prelude.{◌≡◌, ◌+◌, ◌≤◌, IfOk};
+ghost use Rattle.std.specs.Prelude.{◌≡◌, ◌+◌, ◌≤◌, pos, IfOk};
 ghost use Rattle.part_geometry.specs.declared.TheConstants.{LAST_ROUND};
 ghost use Rattle.stencil_def.specs.Plane.{IsPlane};
+ghost use Rattle.cell_lanes.specs.Change.{IsChange, change};
 
 use crate::serial_blocks::{all_blocks, all_pairs, all_rows, room};
 use crate::serial_edges::Scratch;
-use crate::serial_steps::run_steps;
+use crate::serial_steps::{run_steps, step_changed};
 use cell_lanes::{Block, Divisor, LaneWeights};
 use halo_plan::HaloPlan;
 use plain_pair::PlainPair;
@@ -99,6 +100,31 @@ impl SerialRanks {
             &mut self.scratch,
         );
         self.steps += steps;
+    }
+
+    /// Makes one step more as `run` does, and answers by how much the cell of the whole grid changed that changed most.
+    /// It takes no memory and has no refusal.
+    pub fn step_changed(&mut self) -> i64
+        requires { self.old.steps + 1 ≤ LAST_ROUND }
+        ensures after { self.new ≡ ranks_after self.old 1 }
+        ensures change { result ≡ pos (change self.old.grid self.new.grid) }
+        ensures range { IsChange result }
+    {
+        // The plan's limits, for the proof.
+        let _reach = self.plan.reach();
+        let round = self.steps + 1;
+        let most = step_changed(
+            &self.plan,
+            &self.rule,
+            &self.weights,
+            &self.divisor,
+            round,
+            &mut self.pairs,
+            &mut self.blocks,
+            &mut self.scratch,
+        );
+        self.steps = round;
+        most
     }
 
     /// The grid after the steps so far. The error is want of memory.

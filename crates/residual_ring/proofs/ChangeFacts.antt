@@ -1,6 +1,6 @@
--- The greatest change of a grid: that of its rows, one after another, and that of two parts of its rows, one below the
--- other. No cell changes by more, and one by as much.
-use Rattle.std.proofs.Common.{◌≡◌, ◌∙◌, ap, ℕ, zero, suc, ◌+◌, ◌*◌, ◌<◌, ◌≤◌, max, ℤ, pos, ◌-ℤ◌, unsigned_abs, length, drop, get_or, to_z, of_z, w64, arith}
+-- The greatest change of a grid: that of its rows, one after another. No cell changes by more, and one by as much. Of two
+-- changes the greater is one.
+use Rattle.std.proofs.Common.{◌≡◌, ◌∙◌, ap, ℕ, ◌+◌, ◌*◌, ◌<◌, ◌≤◌, max, ℤ, pos, ◌-ℤ◌, unsigned_abs, length, drop, get_or, to_z, of_z, w64, arith}
 use Rattle.std.specs.List.{All}
 use Rattle.std.specs.Int.{int_max}
 use Rattle.std.proofs.lemmas.Int.{clamps, ints}
@@ -52,25 +52,6 @@ change-met old new some-rows some-cols =
     let in-grid = greatest-met old.rows (λ r. row_change old new 0 old.cols (0 + r)) some-rows in
     let in-row = greatest-met old.cols (λ c. difference old new (0 + in-grid.0) (0 + c)) some-cols in
     (in-grid.0, in-row.0, in-grid.1, in-row.1, difference-first old new in-grid.0 in-row.0 ∙ in-row.2 ∙ in-grid.2)
-
--- the greatest of some numbers and of those behind them
-greatest-append : (a b : ℕ) (f : ℕ → ℕ) → greatest_below (a + b) f ≡ max (greatest_below a f) (greatest_below b (λ k. f (a + k)))
-unfolding greatest_below
-greatest-append a zero f = let e : a + 0 ≡ a = omega arith in ap (λ n. greatest_below n f) e ∙ omega arith
-greatest-append a (suc b) f =
-    let e : a + suc b ≡ suc (a + b) = omega arith in
-    let rest = greatest-append a b f in
-    ap (λ n. greatest_below n f) e ∙ omega arith
-
--- the change of rows, and of rows below them
-pub change-append : (old new : Plane) (top rows more left cols : ℕ)
-    → change_within old new top (rows + more) left cols ≡ max (change_within old new top rows left cols) (change_within old new (top + rows) more left cols)
-change-append old new top rows more left cols =
-    let f : ℕ → ℕ = λ r. row_change old new left cols (top + r) in
-    let same : greatest_below more (λ k. f (rows + k)) ≡ change_within old new (top + rows) more left cols =
-    greatest-same more (λ k. f (rows + k)) (λ k. row_change old new left cols (top + rows + k))
-    (λ k l. let e : top + (rows + k) ≡ top + rows + k = omega arith in ap (row_change old new left cols) e) in
-    greatest-append rows more f ∙ ap (max (change_within old new top rows left cols)) same
 
 -- the greater of two numbers
 pub int_max-is : (a b : ℕ) → int_max (pos a) (pos b) ≡ pos (max a b)

@@ -1,8 +1,8 @@
 use Rattle.std.proofs.Common.{◌≡◌, ◌∙◌, ◌+◌, sym, ap, ℕ, max, pos, to_z, of_z, w64}
 use Rattle.std.specs.Int.{int_max}
 use Rattle.cell_lanes.specs.Change.{IsChange, change_within}
-use Rattle.cell_lanes.proofs.ChangeFacts.{change-back}
-use Rattle.residual_ring.proofs.ChangeFacts.{change-append, greater-is-change, int_max-is}
+use Rattle.cell_lanes.proofs.ChangeFacts.{change-append, change-back}
+use Rattle.residual_ring.proofs.ChangeFacts.{greater-is-change, int_max-is}
 use Rattle.residual_ring.proofs.change.joined_change.Goals as goal
 
 pub returns-clause-change : goal.returns-clause-change

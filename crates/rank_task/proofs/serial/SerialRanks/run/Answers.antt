@@ -2,10 +2,9 @@ use Rattle.std.proofs.Common.{◌≡◌, ◌∙◌, sym, ap, subst, ◌+◌, ◌
 use Rattle.plain_pair.specs.Kept.{Kept}
 use Rattle.stencil_def.specs.Step.{fold_plane}
 use Rattle.cell_lanes.specs.Block.{Part}
-use Rattle.rank_task.specs.Blocks.{ArePaired, AreSized, HoldGrid, Suit}
+use Rattle.rank_task.specs.Blocks.{ArePaired, AreSized, HoldGrid}
 use Rattle.rank_task.specs.Ranks.{Ranks, gathered, ranks_after}
-use Rattle.rank_task.proofs.GridFacts.{stepped, stepped-plane, written}
-use Rattle.rank_task.proofs.StepFacts.{suit-next}
+use Rattle.rank_task.proofs.GridFacts.{AreAfter, stepped, written}
 use Rattle.rank_task.proofs.serial.SerialRanks.run.Goals as goal
 
 -- the blocks and the pairs as they stand in their vectors afterwards
@@ -26,26 +25,25 @@ same-pairs c = written c.self.inside.pairs.len c.self.inside.pairs.items c.run_s
 sized : (c : goal.After-self-3-1) → AreSized c.self.inside.plan (blocks c)
 sized c = subst (AreSized c.self.inside.plan) (sym (same-blocks c)) c.run_steps.ensures.blocks
 
-holds : (c : goal.After-self-3-1) → HoldGrid c.self.inside.plan (fold_plane (gathered c.self.inside.plan c.self.inside.blocks.items) c.self.inside.rule c.args.steps) (blocks c)
-holds c =
+after : (c : goal.After-self-3-1) → AreAfter c.self.inside.plan (gathered c.self.inside.plan c.self.inside.blocks.items) c.self.inside.rule c.args.steps (blocks c)
+after c =
     let k = c.self.inside in let i = c.self.invariant in let g = gathered k.plan k.blocks.items in
-    subst (HoldGrid k.plan (fold_plane g k.rule c.args.steps)) (sym (same-blocks c))
-    (c.run_steps.ensures.fold g i.suit (subst (HoldGrid k.plan g) (sym c.deref_mut-2.ensures.value) i.own))
+    stepped k.plan g k.rule c.args.steps (blocks c) c.reach-reach.ensures.limits (sized c) i.plane i.suit
+    (subst (HoldGrid k.plan (fold_plane g k.rule c.args.steps)) (sym (same-blocks c))
+    (c.run_steps.ensures.fold g i.suit (subst (HoldGrid k.plan g) (sym c.deref_mut-2.ensures.value) i.own)))
 
 pub invariant_of-self : goal.invariant_of-self
 unfolding blocks pairs
 invariant_of-self c =
-    let k = c.self.inside in let i = c.self.invariant in let g = gathered k.plan k.blocks.items in
-    let v = c.reach-reach.ensures.limits in
-    let done = stepped k.plan g k.rule c.args.steps (blocks c) v (sized c) i.plane i.suit (holds c) in
+    let k = c.self.inside in let i = c.self.invariant in let done = after c in
     let steps = ap (λ (r : Ranks). r.steps) c.self.view_is in let last = c.requires in
     record {
-      plane = stepped-plane k.plan g k.rule c.args.steps (blocks c) v (sized c) i.plane i.suit (holds c);
-      suit = subst (λ h. Suit k.plan h k.rule) (sym done) (suit-next k.plan g k.rule c.args.steps i.suit);
+      plane = done.plane;
+      suit = done.suit;
       weights = i.weights;
       divisor = i.divisor;
       sized = sized c;
-      own = subst (λ h. HoldGrid k.plan h (blocks c)) (sym done) (holds c);
+      own = done.own;
       pairs = subst (ArePaired k.plan (k.steps + c.args.steps) 0) (sym (same-pairs c)) c.run_steps.ensures.pairs;
       few = omega arith;
       room = c.run_steps.ensures.scratch;
@@ -54,6 +52,5 @@ invariant_of-self c =
 pub returns : goal.returns
 unfolding blocks
 returns c =
-    let k = c.self.inside in let i = c.self.invariant in let g = gathered k.plan k.blocks.items in
-    let done = stepped k.plan g k.rule c.args.steps (blocks c) c.reach-reach.ensures.limits (sized c) i.plane i.suit (holds c) in
+    let k = c.self.inside in let done = (after c).grid in
     (λ j. record { plan = k.plan; rule = k.rule; steps = k.steps + c.args.steps; grid = done j }) ∙ ap (λ r. ranks_after r c.args.steps) c.self.view_is
