@@ -1,10 +1,12 @@
 -- What a reading says, and the limits that it keeps.
-use Rattle.std.proofs.Common.{◌≡◌, ℕ, ◌*◌, ◌≤◌, Bool, true, false, ℤ, pos, unsigned_abs, List, [], ◌∷◌, length, Option, Some, None, Ok, Err, refl, arith}
-use Rattle.std.specs.Prelude.{IfSome, String, bytes_eq, codes, drop, is_some, string_bytes, option_and_then, nat_le, not, ◌==◌, if◌then◌else◌}
+use Rattle.std.proofs.Common.{◌≡◌, ℕ, ◌*◌, ◌≤◌, Bool, true, false, ℤ, pos, unsigned_abs, List, [], ◌∷◌, length, Option, Some, None, Ok, Err, refl, subst, arith}
+use Rattle.std.specs.Prelude.{IfSome, String, bytes_eq, codes, drop, is_some, string_bytes, option_and_then, option_map, nat_le, not, ◌==◌, if◌then◌else◌}
 use Rattle.std.specs.declared.alloc.Global.{Global}
 use Rattle.std.specs.List.{slice_split}
 use Rattle.std.proofs.lemmas.Bool.Decides.{nat_tests}
+use Rattle.std.proofs.lemmas.Int.{ints}
 use Rattle.part_geometry.specs.declared.TheConstants.{MAX_DEPTH, MAX_GRAIN, MAX_PARTS, MAX_RANKS}
+use Rattle.cell_lanes.specs.Change.{IsChange}
 use Rattle.halo_message.specs.Message.{shares_few}
 use Rattle.stencil_def.specs.Limits.{IsValue, IsWithin}
 use Rattle.stencil_def.specs.declared.limits.TheConstants.{MAX_DIV}
@@ -18,7 +20,7 @@ use Rattle.stencil_words.specs.declared.words.Size.{Size}
 use Rattle.stencil_words.specs.declared.words.Source.{Source}
 use Rattle.stencil_words.specs.Limits.{IsPlanRead, IsRead, IsSize, IsSource}
 use Rattle.stencil_words.specs.Options.{◌>>=◌, Pair, Text, Values, are_apart, are_sound, options_of, texts, value, when}
-use Rattle.stencil_words.specs.Words.{around_of, grid_source, is_between, made_source, number_given, number_in, one_source, or_default, plan_words, reading_of, reading_of_options, reading_of_values, signed_in, size_in, size_of, size_of_parts, source_of, stencil_reading, value_of_result, with_source}
+use Rattle.stencil_words.specs.Words.{around_of, grid_source, is_between, made_source, change_in, if_given, number_given, number_in, one_source, or_default, plan_words, reading_of, reading_of_options, reading_of_values, signed_in, size_in, size_of, size_of_parts, source_of, stencil_reading, value_of_result, with_source}
 
 -- words of another command, of no options, and of options
 pub no-words : (words : List (String Global)) → length words ≡ 0 → None ≡ stencil_reading (texts words)
@@ -125,6 +127,25 @@ unfolding signed_in
 edge-limit z None e = let same : pos 0 ≡ z = cc in rw (← same) (omega arith)
 edge-limit z (Some text) e = within-limit 1000000000000 z (signed_of text) e
 
+change-limits : (z : ℤ) (text : Text) → change_in text ≡ Some z → IsChange z
+unfolding change_in
+change-limits z text e = by (number_in 0 2000000000000 text) refl e
+  where
+    by : (o : Option ℕ) → number_in 0 2000000000000 text ≡ o → option_map pos o ≡ Some z → IsChange z
+    by None f h = cc h
+    by (Some n) f h =
+        let range = number-range 0 2000000000000 n text f in
+        let same : pos n ≡ z = cc in
+        subst IsChange same (omega (arith, ints), omega (arith, ints))
+
+until-limits : (until : Option ℤ) (given : Option Text) → if_given change_in given ≡ Some until → IfSome until IsChange
+until-limits until None e = let same : None ≡ until = cc in rw (← same) tt
+until-limits until (Some text) e = by (change_in text) refl e
+  where
+    by : (o : Option ℤ) → change_in text ≡ o → option_map Some o ≡ Some until → IfSome until IsChange
+    by None f h = cc h
+    by (Some z) f h = let same : Some z ≡ until = cc in subst (λ u. IfSome u IsChange) same (change-limits z text f)
+
 size-limits : (seed rows cols : Text) → IfSome (size_in seed rows cols) IsSize
 unfolding size_in
 size-limits seed rows cols =
@@ -203,13 +224,15 @@ with-limits given source h =
     bind-some (number_given given (codes "div") 1 MAX_DIV 1) _ IsRead (λ div ed.
     bind-some (or_default (signed_in 1000000000000) (pos 0) (given (codes "edge"))) _ IsRead (λ edge ee.
     bind-some (or_default around_of around.Fixed (given (codes "around"))) _ IsRead (λ side ea.
+    bind-some (if_given change_in (given (codes "until"))) _ IsRead (λ until eu.
     record {
       source_limits = h;
       steps_limit = (default-range 0 MAX_STEPS 1 steps (given (codes "steps")) (omega arith) (omega arith) es).1;
       plan_limits = at-some (plan_words given) IsPlanRead plan (plan-limits given) ep;
       div_limits = default-range 1 MAX_DIV 1 div (given (codes "div")) (omega arith) (omega arith) ed;
       edge_limits = edge-limit edge (given (codes "edge")) ee;
-    })))))
+      until_limits = until-limits until (given (codes "until")) eu;
+    }))))))
 
 -- the limits of a reading
 pub values-limits : (given : Values) → IfSome (reading_of_values given) IsRead

@@ -1,8 +1,9 @@
 -- The limits that what was read keeps.
-use Rattle.std.specs.Prelude.{◌*◌, ◌<◌, ◌≤◌, ◌^◌, IsTrue, ⊤}
+use Rattle.std.specs.Prelude.{◌*◌, ◌<◌, ◌≤◌, ◌^◌, IfSome, IsTrue, ⊤}
 use Rattle.part_geometry.specs.declared.TheConstants.{MAX_DEPTH, MAX_GRAIN, MAX_PARTS, MAX_RANKS}
 use Rattle.stencil_def.specs.Limits.{IsSide, IsValue, IsWithin}
 use Rattle.stencil_def.specs.declared.limits.TheConstants.{MAX_CELLS, MAX_DIV}
+use Rattle.cell_lanes.specs.Change.{IsChange}
 use Rattle.halo_message.specs.Message.{shares_few}
 use Rattle.stencil_words.specs.declared.words.TheConstants.{MAX_STEPS}
 use Rattle.stencil_words.specs.declared.words.PlanWords.{PlanWords}
@@ -38,3 +39,4 @@ pub record IsRead (w : StencilWords) : Type 0 where
   pub plan_limits : IsPlanRead w.plan
   pub div_limits : IsWithin 1 MAX_DIV w.div
   pub edge_limits : IsValue w.edge
+  pub until_limits : IfSome w.until IsChange

@@ -1,11 +1,12 @@
 -- What the words of the command `stencil` ask for.
 use Rattle.std.specs.Prelude.{ℕ, ◌*◌, ◌==◌, Bool, ◌&&◌, nat_le, bytes_eq, codes, if◌then◌else◌, ℤ, pos, unsigned_abs}
-use Rattle.std.specs.Prelude.{List, [], ◌∷◌, Option, Some, None, Result, Ok, Err}
+use Rattle.std.specs.Prelude.{List, [], ◌∷◌, Option, Some, None, option_map, Result, Ok, Err}
 use Rattle.std.specs.List.{slice_split}
 use Rattle.part_geometry.specs.declared.TheConstants.{MAX_DEPTH, MAX_GRAIN, MAX_PARTS, MAX_RANKS}
 use Rattle.stencil_def.specs.declared.limits.TheConstants.{MAX_CELLS, MAX_DIV, MAX_SIDE, MAX_VALUE}
 use Rattle.stencil_def.specs.declared.rule.Around.{Around}
 use Rattle.stencil_def.specs.declared.rule.Around.TheVariants as around
+use Rattle.cell_lanes.specs.declared.change.TheConstants.{MAX_CHANGE}
 use Rattle.halo_message.specs.Message.{shares_few}
 use Rattle.text_words.specs.Numbers.{unsigned_of}
 use Rattle.grid_text.specs.Numbers.{signed_of, within}
@@ -42,6 +43,15 @@ around_of text =
     if bytes_eq text (codes "fixed") then Some around.Fixed
     else if bytes_eq text (codes "wrap") then Some around.Wrap
     else None
+
+-- how much a cell may change at most: a number of 1 to 19 digits, up to the most that a cell can change
+unfoldable pub change_in : Text → Option ℤ
+change_in text = option_map pos (number_in 0 (unsigned_abs MAX_CHANGE) text)
+
+-- what the value reads as, where there is one
+abbrev pub if_given : {A : Type 0} → (Text → Option A) → Option Text → Option (Option A)
+if_given read None = Some None
+if_given read (Some text) = option_map Some (read text)
 
 -- what the value reads as, and the default where there is none
 abbrev pub or_default : {A : Type 0} → (Text → Option A) → A → Option Text → Option A
@@ -109,7 +119,8 @@ with_source given source = do
   div ← number_given given (codes "div") 1 MAX_DIV 1
   edge ← or_default (signed_in (unsigned_abs MAX_VALUE)) (pos 0) (given (codes "edge"))
   around ← or_default around_of around.Fixed (given (codes "around"))
-  Some record { source = source; steps = steps; plan = plan; div = div; edge = edge; around = around }
+  until ← if_given change_in (given (codes "until"))
+  Some record { source = source; steps = steps; plan = plan; div = div; edge = edge; around = around; until = until }
 
 -- the reading of values
 unfoldable pub reading_of_values : Values → Option StencilWords

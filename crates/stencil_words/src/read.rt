@@ -6,13 +6,14 @@ ghost use Rattle.std.specs.List.{slice_split};
 ghost use Rattle.stencil_words.specs.Limits.{IsRead};
 ghost use Rattle.stencil_words.specs.Command.{given_in};
 ghost use Rattle.stencil_words.specs.Options.{are_apart, texts};
-ghost use Rattle.stencil_words.specs.Words.{around_of, grid_source, made_source, number_given, number_in, or_default};
-ghost use Rattle.stencil_words.specs.Words.{plan_words, reading_of_values, signed_in, size_in, size_of, source_of};
-ghost use Rattle.stencil_words.specs.Words.{stencil_reading, with_source};
+ghost use Rattle.stencil_words.specs.Words.{around_of, change_in, grid_source, if_given, made_source, number_given};
+ghost use Rattle.stencil_words.specs.Words.{number_in, or_default, plan_words, reading_of_values, signed_in, size_in};
+ghost use Rattle.stencil_words.specs.Words.{size_of, source_of, stencil_reading, with_source};
 
 use crate::command::matches;
 use crate::options::are_options;
 use crate::{FileName, MAX_STEPS, PlanWords, Size, Source, StencilWords};
+use cell_lanes::MAX_CHANGE;
 use clap::ArgMatches;
 use halo_message::shares_few;
 use part_geometry::{MAX_DEPTH, MAX_GRAIN, MAX_PARTS, MAX_RANKS};
@@ -195,6 +196,28 @@ fn plan_words(matches: &ArgMatches<'_>) -> Option<PlanWords>
     })
 }
 
+/// How much a cell may change at most, as a value of `--until` says.
+#[tactic(auto, unfolding(crate::specs::Words::change_in, crate::specs::Words::number_in))]
+fn change_in(text: &[u8]) -> Option<i64>
+    ensures { result ≡ change_in text.now }
+{
+    let change = unsigned(text)?;
+    if change > MAX_CHANGE.unsigned_abs() {
+        return None;
+    }
+    Some(change as i64)
+}
+
+/// After how small a change the run ends: that of `--until`, where it is given.
+fn until_of(matches: &ArgMatches<'_>) -> Option<Option<i64>>
+    ensures { result ≡ if_given change_in (given_in matches.now (codes "until")) }
+{
+    match matches.get_str("until") {
+        Some(text) => change_in(text.as_bytes()).map(Some),
+        None => Some(None),
+    }
+}
+
 /// What the options say beside where the grid comes from.
 #[tactic(auto, unfolding(crate::specs::Words::with_source))]
 fn with_source(matches: &ArgMatches<'_>, source: Source) -> Option<StencilWords>
@@ -205,6 +228,7 @@ fn with_source(matches: &ArgMatches<'_>, source: Source) -> Option<StencilWords>
     let div = number_or(matches, "div", 1, MAX_DIV, 1)?;
     let edge = edge_of(matches)?;
     let around = around_or(matches)?;
+    let until = until_of(matches)?;
     Some(StencilWords {
         source,
         steps,
@@ -212,6 +236,7 @@ fn with_source(matches: &ArgMatches<'_>, source: Source) -> Option<StencilWords>
         div,
         edge,
         around,
+        until,
     })
 }
 
@@ -238,7 +263,8 @@ fn read_matches(alloc: Global, matches: &ArgMatches<'_>) -> Result<Option<Stenci
 ///
 /// `grid` and `weights` name files. `make` is SEED,ROWS,COLS, with no spaces. Exactly one of `grid` and `make` is
 /// given, and `weights` with `grid`. `steps` is 0 to 10,000, and without it 1; `div` is 1 to 1,000,000, and without it
-/// 1; `edge` is -10^12 to 10^12, and without it 0; `around` is `fixed` or `wrap`, and without it `fixed`.
+/// 1; `edge` is -10^12 to 10^12, and without it 0; `around` is `fixed` or `wrap`, and without it `fixed`; `until` is 0 to
+/// 2 * 10^12, and may be left out.
 ///
 /// `ranks` is 1 to 64, `send-parts` and `recv-parts` are 1 to 1,024 each with a least common multiple of at most 8,192,
 /// `grain` is 1 to 16,777,216 and `depth` 1 to 4; each is 1 where it isn't given.

@@ -67,4 +67,7 @@ pub struct StencilWords {
     pub edge: i64,
     /// What lies outside the grid.
     pub around: Around,
+    /// With it the run ends after the first step that changes no cell by more, if that comes before all steps are made;
+    /// from 0 to 2 * 10^12.
+    pub until: Option<i64>,
 }
