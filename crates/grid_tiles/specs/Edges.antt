@@ -1,5 +1,5 @@
 -- The edges of a plan: which rectangle of the grid goes from which tile to which.
-use Rattle.std.specs.Prelude.{◌≡◌, ℕ, ◌+◌, ◌-◌, ◌*◌, ◌<◌, ◌==◌, nat_le, if◌then◌else◌, ℤ, pos, ◌-ℤ◌, List, [], ◌∷◌, ◌++◌}
+use Rattle.std.specs.Prelude.{◌≡◌, ℕ, ◌+◌, ◌-◌, ◌*◌, ◌<◌, ◌==◌, nat_le, if◌then◌else◌, ℤ, pos, ◌-ℤ◌, Some, List, [], ◌∷◌, ◌++◌, slice_get}
 use Rattle.std.specs.List.{flat_map, range_with_len}
 use Rattle.part_geometry.specs.Shape.{IsWithin, Shape}
 use Rattle.stencil_def.specs.declared.rule.Around.{Around}
@@ -91,6 +91,10 @@ second_phase p =
 -- the edges in order
 unfoldable pub edges : Plan → List TileEdge
 edges p = first_phase p ++ second_phase p
+
+-- an edge of the plan
+abbrev pub IsEdgeOf : Plan → TileEdge → Type 0
+IsEdgeOf p x = (e : ℕ) × (slice_get (edges p) e ≡ Some x)
 
 -- the message of an edge: the cells of its rectangle, row by row
 abbrev pub message_of : Plan → TileEdge → Message

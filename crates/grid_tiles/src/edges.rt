@@ -16,7 +16,7 @@ use part_geometry::Geometry;
 use stencil_def::Around;
 
 /// How many of so many places in a row have a next one.
-fn nexts(around: Around, count: u32) -> u32
+pub(crate) fn nexts(around: Around, count: u32) -> u32
     requires { 1 ≤ count }
     ensures { result ≡ nexts around count }
 {

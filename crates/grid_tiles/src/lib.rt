@@ -1,11 +1,19 @@
-//! A grid cut into tiles, in rows and in columns, and which of its cells pass between tiles as partitioned messages.
+//! A grid cut into tiles, in rows and in columns, which of its cells pass between tiles as partitioned messages, and all
+//! tiles in one thread.
 #![tactic(auto)]
 
 mod edges;
 mod plan;
+mod serial;
+mod serial_blocks;
+mod serial_cells;
+mod serial_edges;
+mod serial_outside;
+mod serial_steps;
 mod tile;
 
 pub use plan::{TileFault, TilePlan};
+pub use serial::SerialTiles;
 pub use tile::{Tile, TileEdge, TileShape};
 
 /// The tag of an edge that brings a tile the columns before its own.
