@@ -1,11 +1,11 @@
 -- The edges by number: of two edges for each pair of neighbours, and as many pairs in each row of tiles, edge e is of pair
 -- e / 2, which is the pair (e / 2) % n of row (e / 2) / n.
-use Rattle.std.proofs.Common.{◌≡◌, ◌∙◌, refl, sym, ap, subst, ℕ, zero, suc, ◌+◌, ◌-◌, ◌*◌, ◌/◌, ◌%◌, ◌<◌, ◌≤◌, true, false, Some, List, [], ◌∷◌, ◌++◌, length, arith, inl, inr, length-append}
-use Rattle.std.specs.Prelude.{nat_le, slice_get}
+use Rattle.std.proofs.Common.{◌≡◌, ◌∙◌, refl, sym, ap, subst, ℕ, zero, suc, ◌+◌, ◌-◌, ◌*◌, ◌/◌, ◌%◌, ◌<◌, ◌≤◌, true, false, Option, Some, List, [], ◌∷◌, ◌++◌, length, arith, inl, inr, length-append}
+use Rattle.std.specs.Prelude.{◌⊎◌, nat_le, slice_get}
 use Rattle.std.specs.List.{flat_map, range_with_len}
-use Rattle.std.proofs.lemmas.Bool.{cases_Bool}
+use Rattle.std.proofs.lemmas.Bool.{cases_Bool, cases_lt}
 use Rattle.std.proofs.lemmas.List.FromFn.{length-range_with_len}
-use Rattle.std.proofs.lemmas.Nat.{div-add-mod', div_below, mod_below}
+use Rattle.std.proofs.lemmas.Nat.{div-add-mod', div_below, mod_below, mul-add-lt}
 use Rattle.stencil_def.specs.declared.rule.Around.{Around}
 use Rattle.stencil_def.specs.declared.rule.Around.TheVariants.{Fixed, Wrap}
 use Rattle.grid_tiles.specs.declared.tile.TileEdge.{TileEdge}
@@ -151,3 +151,103 @@ edge-first p e less = get-left (first_phase p) (second_phase p) e less
 pub edge-second : (p : Plan) (e n : ℕ) → e ≡ length (first_phase p) + n → slice_get (edges p) e ≡ slice_get (second_phase p) n
 unfolding edges
 edge-second p e n is = get-right (first_phase p) (second_phase p) e n is
+
+-- ---- where the edges are
+
+-- the edges between the tile in row a and column b, which has a right neighbour, and that neighbour
+pub record FirstThere (p : Plan) (a b : ℕ) : Type 0 where
+  pub at : ℕ
+  pub inside : at + 1 < length (first_phase p)
+  pub right : slice_get (edges p) at ≡ Some (rightward p a b (next p.tile_cols b))
+  pub left : slice_get (edges p) (at + 1) ≡ Some (leftward p a b (next p.tile_cols b))
+
+pub first-there : (p : Plan) (a b : ℕ) → a < p.tile_rows → b < nexts p.shape.around p.tile_cols → FirstThere p a b
+first-there p a b l m =
+    let n = nexts p.shape.around p.tile_cols in
+    let e = 2 * (a * n + b) in
+    let many = first-many p in
+    let place = mul-add-lt a n b p.tile_rows l m in
+    let inside : e + 1 < length (first_phase p) = omega arith in
+    record {
+      at = e;
+      inside = inside;
+      right = edge-first p e (omega arith) ∙ pairs-get (across p) p.tile_rows n e a b 0 (λ a b. refl) l m (omega arith) (omega arith);
+      left = edge-first p (e + 1) inside ∙ pairs-get (across p) p.tile_rows n (e + 1) a b 1 (λ a b. refl) l m (omega arith) (omega arith);
+    }
+
+-- and between it and its lower neighbour, if it has one
+pub record SecondThere (p : Plan) (a b : ℕ) : Type 0 where
+  pub at : ℕ
+  pub above : length (first_phase p) ≤ at
+  pub inside : at + 1 < length (edges p)
+  pub down : slice_get (edges p) at ≡ Some (downward p a b (next p.tile_rows a))
+  pub up : slice_get (edges p) (at + 1) ≡ Some (upward p a b (next p.tile_rows a))
+
+pub second-there : (p : Plan) (a b : ℕ) → a < nexts p.shape.around p.tile_rows → b < p.tile_cols → SecondThere p a b
+second-there p a b l m =
+    let n = nexts p.shape.around p.tile_rows in
+    let f = length (first_phase p) in
+    let k = 2 * (a * p.tile_cols + b) in
+    let many = second-many p in let all = edges-many p in
+    let place = mul-add-lt a p.tile_cols b n l m in
+    record {
+      at = f + k;
+      above = omega arith;
+      inside = omega arith;
+      down = edge-second p (f + k) k refl ∙ pairs-get (along p) n p.tile_cols k a b 0 (λ a b. refl) l m (omega arith) (omega arith);
+      up = edge-second p (f + k + 1) (k + 1) (omega arith) ∙ pairs-get (along p) n p.tile_cols (k + 1) a b 1 (λ a b. refl) l m (omega arith) (omega arith);
+    }
+
+-- an edge of the first phase is one of those
+pub record IsFirst (p : Plan) (x : TileEdge) : Type 0 where
+  pub a : ℕ
+  pub b : ℕ
+  pub row : a < p.tile_rows
+  pub place : b < nexts p.shape.around p.tile_cols
+  pub is : (x ≡ rightward p a b (next p.tile_cols b)) ⊎ (x ≡ leftward p a b (next p.tile_cols b))
+
+pub record IsSecond (p : Plan) (x : TileEdge) : Type 0 where
+  pub a : ℕ
+  pub b : ℕ
+  pub row : a < nexts p.shape.around p.tile_rows
+  pub place : b < p.tile_cols
+  pub is : (x ≡ downward p a b (next p.tile_rows a)) ⊎ (x ≡ upward p a b (next p.tile_rows a))
+
+pub same-edge : (x y : TileEdge) → ◌≡◌ {A = Option TileEdge} (Some x) (Some y) → x ≡ y
+same-edge x y e = cc
+
+even-odd : (e : ℕ) → (e % 2 ≡ 0) ⊎ (e % 2 ≡ 1)
+even-odd e = elim (cases_lt 0 (e % 2)) [ inl more ↦ inr (omega arith) | inr none ↦ inl (omega arith) ]
+
+pub first-is : (p : Plan) (e : ℕ) (x : TileEdge) → e < length (first_phase p) → slice_get (edges p) e ≡ Some x → IsFirst p x
+first-is p e x less at =
+    let n = nexts p.shape.around p.tile_cols in
+    let h = first-pair p e less in
+    record {
+      a = e / 2 / n;
+      b = e / 2 % n;
+      row = h.row;
+      place = h.place;
+      is = elim (even-odd e) [
+        | inl even ↦ inl (same-edge x _ (sym at ∙ edge-first p e less ∙ first-even p e (e / 2 / n) (e / 2 % n) less refl refl even))
+        | inr odd ↦ inr (same-edge x _ (sym at ∙ edge-first p e less ∙ first-odd p e (e / 2 / n) (e / 2 % n) less refl refl odd))
+      ];
+    }
+
+pub second-is : (p : Plan) (e : ℕ) (x : TileEdge) → length (first_phase p) ≤ e → e < length (edges p) → slice_get (edges p) e ≡ Some x → IsSecond p x
+second-is p e x above less at =
+    let n = p.tile_cols in
+    let all = edges-many p in
+    let k = e - length (first_phase p) in
+    let low : k < length (second_phase p) = omega arith in
+    let h = second-pair p k low in
+    record {
+      a = k / 2 / n;
+      b = k / 2 % n;
+      row = h.row;
+      place = h.place;
+      is = elim (even-odd k) [
+        | inl even ↦ inl (same-edge x _ (sym at ∙ edge-second p e k (omega arith) ∙ second-even p k (k / 2 / n) (k / 2 % n) low refl refl even))
+        | inr odd ↦ inr (same-edge x _ (sym at ∙ edge-second p e k (omega arith) ∙ second-odd p k (k / 2 / n) (k / 2 % n) low refl refl odd))
+      ];
+    }

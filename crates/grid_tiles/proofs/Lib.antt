@@ -1,2 +1,9 @@
 pub mod Planning
 pub mod EdgeFacts
+pub mod CellFacts
+pub mod SeamFacts
+pub mod OutsideFacts
+pub mod BringFacts
+pub mod PassFacts
+pub mod ReadFacts
+pub mod StepFacts

@@ -83,3 +83,16 @@ side-found p a low high reach v less from to near =
 
 pub number-found : (p : Plan) (cols a b : ℕ) → cols ≡ p.tile_cols → a < p.tile_rows → b < p.tile_cols → a * cols + b < tiles p
 number-found p cols a b same l m = subst (λ n. a * n + b < tiles p) (sym same) (number-inside p a b l m)
+
+-- a tile has no more rows and columns than the grid
+pub tile-tall : (p : Plan) (t : ℕ) → IsPlan p → t < tiles p → first_row p (t / p.tile_cols) + rows_of p (t / p.tile_cols) ≤ p.rows
+tile-tall p t v less =
+    let a = t / p.tile_cols in let inside = (tile-at p t v less).0 in
+    let end = cut-inside p.rows p.tile_rows (a + 1) (omega arith) (omega arith) in let some = rows-some p a v in
+    omega arith
+
+pub tile-wide : (p : Plan) (t : ℕ) → IsPlan p → t < tiles p → first_col p (t % p.tile_cols) + cols_of p (t % p.tile_cols) ≤ p.cols
+tile-wide p t v less =
+    let b = t % p.tile_cols in let inside = (tile-at p t v less).1 in
+    let end = cut-inside p.cols p.tile_cols (b + 1) (omega arith) (omega arith) in let some = cols-some p b v in
+    omega arith

@@ -1,5 +1,5 @@
 -- The blocks and the messages of all tiles while a step is made: for private functions.
-use Rattle.std.specs.Prelude.{◌≡◌, ℕ, ◌+◌, ◌-◌, ◌*◌, ◌/◌, ◌%◌, ◌<◌, ◌≤◌, ◌==◌, if◌then◌else◌, ℤ, pos, ◌-ℤ◌, List, Option, Some, None}
+use Rattle.std.specs.Prelude.{◌≡◌, ℕ, ◌+◌, ◌-◌, ◌*◌, ◌/◌, ◌%◌, ◌<◌, ◌≤◌, ◌==◌, ◌&&◌, if◌then◌else◌, Bool, true, nat_le, nat_lt, ℤ, pos, ◌-ℤ◌, List, Option, Some, None}
 use Rattle.std.specs.Prelude.{length, slice_get, slice_index_or}
 use Rattle.std.specs.List.{All}
 use Rattle.part_geometry.specs.Shape.{Shape}
@@ -168,17 +168,35 @@ pub record ColumnsSet (p : Plan) (rule : Rule) (t from n : ℕ) (old new : Part)
   pub set : (g : Plane) → Suit p g rule → OwnHeld p g rule t old → (row k : ℕ) → row < tall p t → k < n
       → HasRead p g rule t new (p.shape.reach + row) (from + k)
 
--- the halo's columns that no edge brings were given what lies there, in the own rows: those before the own columns of a
--- tile that is no other's right neighbour, and those behind them of a tile that has none
+-- no tile has tile t as its right neighbour, and it has none itself; the same with lower neighbours
+abbrev pub opens_left : Plan → ℕ → Bool
+opens_left p t = (t % p.tile_cols == 0) && nat_lt (nexts p.shape.around p.tile_cols) p.tile_cols
+
+abbrev pub opens_right : Plan → ℕ → Bool
+opens_right p t = nat_le (nexts p.shape.around p.tile_cols) (t % p.tile_cols)
+
+abbrev pub opens_up : Plan → ℕ → Bool
+opens_up p t = (t / p.tile_cols == 0) && nat_lt (nexts p.shape.around p.tile_rows) p.tile_rows
+
+abbrev pub opens_down : Plan → ℕ → Bool
+opens_down p t = nat_le (nexts p.shape.around p.tile_rows) (t / p.tile_cols)
+
+-- the columns from column `from` on, as many as the weights reach, were given what lies there, in the own rows, where
+-- they are open
+pub record OpenColumnsSet (p : Plan) (rule : Rule) (t : ℕ) (is_open : Bool) (from : ℕ) (old new : Part) : Type 0 where
+  pub size : IsSized p t new
+  pub keeps : (g : Plane) → Suit p g rule → OwnHeld p g rule t old → Holding p g rule t old new
+  pub set : is_open ≡ true → (g : Plane) → Suit p g rule → OwnHeld p g rule t old → (row k : ℕ) → row < tall p t
+      → k < p.shape.reach → HasRead p g rule t new (p.shape.reach + row) (from + k)
+
+-- the halo's columns that no edge brings were given what lies there, in the own rows
 pub record AreSidesSet (p : Plan) (rule : Rule) (t : ℕ) (old new : Part) : Type 0 where
   pub size : IsSized p t new
   pub keeps : (g : Plane) → Suit p g rule → OwnHeld p g rule t old → Holding p g rule t old new
-  pub before : (g : Plane) → Suit p g rule → OwnHeld p g rule t old → t % p.tile_cols ≡ 0
-      → nexts p.shape.around p.tile_cols < p.tile_cols → (row k : ℕ) → row < tall p t → k < p.shape.reach
-      → HasRead p g rule t new (p.shape.reach + row) k
-  pub behind : (g : Plane) → Suit p g rule → OwnHeld p g rule t old → nexts p.shape.around p.tile_cols ≤ t % p.tile_cols
-      → (row k : ℕ) → row < tall p t → k < p.shape.reach
-      → HasRead p g rule t new (p.shape.reach + row) (p.shape.reach + wide p t + k)
+  pub before : opens_left p t ≡ true → (g : Plane) → Suit p g rule → OwnHeld p g rule t old → (row k : ℕ) → row < tall p t
+      → k < p.shape.reach → HasRead p g rule t new (p.shape.reach + row) (0 + k)
+  pub behind : opens_right p t ≡ true → (g : Plane) → Suit p g rule → OwnHeld p g rule t old → (row k : ℕ) → row < tall p t
+      → k < p.shape.reach → HasRead p g rule t new (p.shape.reach + row) (p.shape.reach + wide p t + k)
 
 -- the first n rows from row `from` on were given what lies there
 pub record RowsSet (p : Plan) (rule : Rule) (t from n : ℕ) (old new : Part) : Type 0 where
@@ -187,17 +205,21 @@ pub record RowsSet (p : Plan) (rule : Rule) (t from n : ℕ) (old new : Part) : 
   pub set : (g : Plane) → Suit p g rule → SidesHeld p g rule t old → (k x : ℕ) → k < n
       → x < wide p t + 2 * p.shape.reach → HasRead p g rule t new (from + k) x
 
--- the halo's rows that no edge brings were given what lies there: those above the own rows of a tile that is no other's
--- lower neighbour, and those below them of a tile that has none
+-- the rows from row `from` on, as many as the weights reach, were given what lies there, where they are open
+pub record OpenRowsSet (p : Plan) (rule : Rule) (t : ℕ) (is_open : Bool) (from : ℕ) (old new : Part) : Type 0 where
+  pub size : IsSized p t new
+  pub keeps : (g : Plane) → Suit p g rule → SidesHeld p g rule t old → Holding p g rule t old new
+  pub set : is_open ≡ true → (g : Plane) → Suit p g rule → SidesHeld p g rule t old → (k x : ℕ) → k < p.shape.reach
+      → x < wide p t + 2 * p.shape.reach → HasRead p g rule t new (from + k) x
+
+-- the halo's rows that no edge brings were given what lies there
 pub record AreEndsSet (p : Plan) (rule : Rule) (t : ℕ) (old new : Part) : Type 0 where
   pub size : IsSized p t new
   pub keeps : (g : Plane) → Suit p g rule → SidesHeld p g rule t old → Holding p g rule t old new
-  pub above : (g : Plane) → Suit p g rule → SidesHeld p g rule t old → t / p.tile_cols ≡ 0
-      → nexts p.shape.around p.tile_rows < p.tile_rows → (k x : ℕ) → k < p.shape.reach
-      → x < wide p t + 2 * p.shape.reach → HasRead p g rule t new k x
-  pub below : (g : Plane) → Suit p g rule → SidesHeld p g rule t old → nexts p.shape.around p.tile_rows ≤ t / p.tile_cols
-      → (k x : ℕ) → k < p.shape.reach → x < wide p t + 2 * p.shape.reach
-      → HasRead p g rule t new (p.shape.reach + tall p t + k) x
+  pub above : opens_up p t ≡ true → (g : Plane) → Suit p g rule → SidesHeld p g rule t old → (k x : ℕ) → k < p.shape.reach
+      → x < wide p t + 2 * p.shape.reach → HasRead p g rule t new (0 + k) x
+  pub below : opens_down p t ≡ true → (g : Plane) → Suit p g rule → SidesHeld p g rule t old → (k x : ℕ)
+      → k < p.shape.reach → x < wide p t + 2 * p.shape.reach → HasRead p g rule t new (p.shape.reach + tall p t + k) x
 
 -- where a column, or a row, of the grid stands there, the tile has it, and all columns, or rows, before it
 abbrev pub OwnColumns : Plan → Rule → ℕ → ℕ → Type 0

@@ -21,6 +21,8 @@ pub(crate) fn copy_cells(block: &Block, y: u32, x: u32, rows: u32, cols: u32, ou
         slice_index_or out.new (k * cols + j) (pos 0) ≡ at block.now (y + k) (x + j) }
     ensures values { All IsValue out.new }
 {
+    // The block's limits, for the proof.
+    let _reach = block.reach();
     let count = cols as usize;
     for k in 0..rows {
         let start = k as usize * count;
@@ -36,6 +38,8 @@ pub(crate) fn put_cells(block: &mut Block, y: u32, x: u32, rows: u32, cols: u32,
     requires values { All IsValue values.now }
     ensures { IsPut y x rows cols values.now block.old block.new }
 {
+    // The block's limits, for the proof.
+    let _reach = block.reach();
     let count = cols as usize;
     for k in 0..rows {
         let start = k as usize * count;
@@ -97,6 +101,7 @@ fn row_or_edge(block: &Block, rule: &Rule, source: Option<u32>, out: &mut [i64])
     ensures edge { source ≡ None → (x : ℕ) → x < width block.now → slice_index_or out.new x (pos 0) ≡ rule.now.edge }
     ensures own { (row : ℕ) → source ≡ Some row → (x : ℕ) → x < width block.now →
         slice_index_or out.new x (pos 0) ≡ at block.now (block.now.reach + row) x }
+    ensures length { length out.new ≡ width block.now }
     ensures limits { All IsValue out.new }
 {
     let reach = block.reach();

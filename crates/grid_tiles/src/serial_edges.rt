@@ -6,7 +6,7 @@ ghost use Rattle.part_geometry.specs.declared.TheConstants.{LAST_ROUND};
 ghost use Rattle.stencil_def.specs.Limits.{IsValue};
 ghost use Rattle.stencil_def.specs.Plane.{Plane};
 ghost use Rattle.stencil_def.specs.declared.rule.Rule.{Rule};
-ghost use Rattle.halo_message.specs.declared.TheConstants.{ELEMENT_BYTES};
+ghost use Rattle.halo_message.specs.declared.TheConstants.{ELEMENT_BYTES, MAX_MULTIPLE, MAX_VALUES};
 ghost use Rattle.halo_message.specs.Message.{elements};
 ghost use Rattle.halo_message.specs.Passing.{RestsAt};
 ghost use Rattle.grid_tiles.specs.declared.TheConstants.{DOWN, LEFT, RIGHT};
@@ -114,6 +114,53 @@ fn carry_edge(
     put_cells(receiver, y, x, rows, cols, arrived);
 }
 
+/// The same at the front of these slices, which have room for any message.
+fn carry_within(
+    plan: &TilePlan,
+    edge: TileEdge,
+    round: u32,
+    message: &Message,
+    pair: &mut PlainPair,
+    blocks: &mut [Block],
+    carried: &mut [i64],
+    bytes: &mut [u8],
+    arrived: &mut [i64],
+)
+    requires edge { IsEdgeOf plan.now edge }
+    requires size { IsEdge plan.now edge }
+    requires some { 1 ≤ round }
+    requires last { round ≤ LAST_ROUND }
+    requires message { message.now ≡ message_of plan.now edge }
+    requires pair { RestsAt (shape_of plan.now edge) (round - 1) pair.old }
+    requires blocks { AreSized plan.now blocks.old }
+    requires carried { length carried.old ≡ MAX_VALUES }
+    requires limits { All IsValue carried.old }
+    requires bytes { length bytes.old ≡ (MAX_VALUES + MAX_MULTIPLE) * ELEMENT_BYTES }
+    requires arrived { length arrived.old ≡ MAX_VALUES }
+    ensures pair { RestsAt (shape_of plan.now edge) round pair.new }
+    ensures blocks { AreSized plan.now blocks.new }
+    ensures limits { All IsValue carried.new }
+    ensures keeps { (g : Plane) (rule : Rule) → Suit plan.now g rule → IsReady plan.now g rule blocks.old edge →
+        Keeps plan.now g rule blocks.old blocks.new }
+    ensures brought { (g : Plane) (rule : Rule) → Suit plan.now g rule → IsReady plan.now g rule blocks.old edge →
+        IsBrought plan.now g rule blocks.new edge }
+{
+    let values = (edge.rows * edge.cols) as usize;
+    let len = (message.elements() * ELEMENT_BYTES) as usize;
+    let (carried, arrived) = (&mut carried[..values], &mut arrived[..values]);
+    carry_edge(
+        plan,
+        edge,
+        round,
+        message,
+        pair,
+        blocks,
+        carried,
+        &mut bytes[..len],
+        arrived,
+    );
+}
+
 /// Passes the cells of an edge through its pair.
 fn pass_edge(
     plan: &TilePlan,
@@ -138,18 +185,16 @@ fn pass_edge(
     ensures brought { (g : Plane) (rule : Rule) → Suit plan.now g rule → IsReady plan.now g rule blocks.old edge →
         IsBrought plan.now g rule blocks.new edge }
 {
-    let values = (edge.rows * edge.cols) as usize;
-    let bytes = (link.message.elements() * ELEMENT_BYTES) as usize;
-    carry_edge(
+    carry_within(
         plan,
         edge,
         round,
         &link.message,
         &mut link.pair,
         blocks,
-        &mut scratch.carried[..values],
-        &mut scratch.bytes[..bytes],
-        &mut scratch.arrived[..values],
+        &mut scratch.carried,
+        &mut scratch.bytes,
+        &mut scratch.arrived,
     );
 }
 
@@ -178,6 +223,8 @@ pub(crate) fn pass_edges(
     ensures brought { (g : Plane) (rule : Rule) → Suit plan.now g rule → AreReady plan.now g rule blocks.old from end →
         AreBrought plan.now g rule blocks.new from end }
 {
+    // The plan's limits, for the proof.
+    let _reach = plan.reach();
     for e in from..end {
         let edge = plan.edge(e);
         pass_edge(plan, edge, round, &mut links[e as usize], blocks, scratch);

@@ -1,13 +1,15 @@
 //! The places of the halo that lie outside the grid.
 
-ghost use Rattle.std.specs.Prelude.{◌≡◌, ◌+◌, ◌*◌, ◌<◌, ◌≤◌, length};
+ghost use Rattle.std.specs.Prelude.{◌≡◌, ◌+◌, ◌*◌, ◌<◌, ◌≤◌, true, length};
 ghost use Rattle.std.specs.List.{All};
 ghost use Rattle.stencil_def.specs.Limits.{IsValue};
 ghost use Rattle.stencil_def.specs.Plane.{Plane};
+ghost use Rattle.halo_message.specs.declared.TheConstants.{MAX_VALUES};
 ghost use Rattle.grid_tiles.specs.Plan.{tiles};
 ghost use Rattle.grid_tiles.specs.Edges.{edges, first_phase};
 ghost use Rattle.grid_tiles.specs.Blocks.{AllRead, AreBrought, AreEndsSet, AreSidesSet, AreSized, ColumnsSet};
-ghost use Rattle.grid_tiles.specs.Blocks.{IsSized, OwnColumns, OwnRead, OwnRows, RowsSet, SidesRead, Suit};
+ghost use Rattle.grid_tiles.specs.Blocks.{IsSized, OpenColumnsSet, OpenRowsSet, OwnColumns, OwnRead, OwnRows, RowsSet};
+ghost use Rattle.grid_tiles.specs.Blocks.{SidesRead, Suit, opens_down, opens_left, opens_right, opens_up};
 ghost use Rattle.grid_tiles.specs.Blocks.{tall, wide};
 
 use crate::TilePlan;
@@ -33,6 +35,37 @@ fn set_columns(plan: &TilePlan, rule: &Rule, t: u32, from: u32, block: &mut Bloc
     }
 }
 
+/// The same where these columns are open.
+fn set_columns_if(plan: &TilePlan, rule: &Rule, t: u32, is_open: bool, from: u32, block: &mut Block)
+    requires tile { t < tiles plan.now }
+    requires around { rule.now.around ≡ plan.now.shape.around }
+    requires reach { rule.now.weights.reach ≡ plan.now.shape.reach }
+    requires room { from ≤ plan.now.shape.reach + wide plan.now t }
+    requires own { is_open ≡ true → OwnColumns plan.now rule.now t from }
+    requires size { IsSized plan.now t block.old }
+    ensures { OpenColumnsSet plan.now rule.now t is_open from block.old block.new }
+{
+    if is_open {
+        set_columns(plan, rule, t, from, block);
+    }
+}
+
+/// Whether no tile has tile `t` as its right neighbour.
+fn opens_left(plan: &TilePlan, t: u32) -> bool
+    ensures { result ≡ opens_left plan.now t }
+{
+    let count = plan.tile_cols();
+    t % count == 0 && nexts(plan.shape.around, count) < count
+}
+
+/// Whether tile `t` has no right neighbour.
+fn opens_right(plan: &TilePlan, t: u32) -> bool
+    ensures { result ≡ opens_right plan.now t }
+{
+    let count = plan.tile_cols();
+    nexts(plan.shape.around, count) <= t % count
+}
+
 /// Gives the halo's columns that no edge brings to tile `t` what lies there, in its own rows.
 fn set_open_columns(plan: &TilePlan, rule: &Rule, t: u32, block: &mut Block)
     requires tile { t < tiles plan.now }
@@ -41,16 +74,9 @@ fn set_open_columns(plan: &TilePlan, rule: &Rule, t: u32, block: &mut Block)
     requires size { IsSized plan.now t block.old }
     ensures { AreSidesSet plan.now rule.now t block.old block.new }
 {
-    let count = plan.tile_cols();
-    let have_next = nexts(plan.shape.around, count);
-    let b = t % count;
-    if b == 0 && have_next < count {
-        set_columns(plan, rule, t, 0, block);
-    }
-    if b >= have_next {
-        let behind = block.reach() + block.cols();
-        set_columns(plan, rule, t, behind, block);
-    }
+    let behind = plan.reach() + block.cols();
+    set_columns_if(plan, rule, t, opens_left(plan, t), 0, block);
+    set_columns_if(plan, rule, t, opens_right(plan, t), behind, block);
 }
 
 /// Gives the halo's columns that no edge brings what lies there, in the own rows of all tiles, which then have the
@@ -90,6 +116,47 @@ fn set_rows(plan: &TilePlan, rule: &Rule, t: u32, from: u32, block: &mut Block, 
     }
 }
 
+/// The same where these rows are open.
+fn set_rows_if(
+    plan: &TilePlan,
+    rule: &Rule,
+    t: u32,
+    is_open: bool,
+    from: u32,
+    block: &mut Block,
+    room: &mut [i64],
+)
+    requires tile { t < tiles plan.now }
+    requires around { rule.now.around ≡ plan.now.shape.around }
+    requires reach { rule.now.weights.reach ≡ plan.now.shape.reach }
+    requires start { from ≤ plan.now.shape.reach + tall plan.now t }
+    requires own { is_open ≡ true → OwnRows plan.now rule.now t from }
+    requires size { IsSized plan.now t block.old }
+    requires room { wide plan.now t + 2 * plan.now.shape.reach ≤ length room.old }
+    requires values { All IsValue room.old }
+    ensures set { OpenRowsSet plan.now rule.now t is_open from block.old block.new }
+    ensures values { All IsValue room.new }
+{
+    if is_open {
+        set_rows(plan, rule, t, from, block, room);
+    }
+}
+
+/// Whether no tile has tile `t` as its lower neighbour.
+fn opens_up(plan: &TilePlan, t: u32) -> bool
+    ensures { result ≡ opens_up plan.now t }
+{
+    let count = plan.tile_rows();
+    t / plan.tile_cols() == 0 && nexts(plan.shape.around, count) < count
+}
+
+/// Whether tile `t` has no lower neighbour.
+fn opens_down(plan: &TilePlan, t: u32) -> bool
+    ensures { result ≡ opens_down plan.now t }
+{
+    nexts(plan.shape.around, plan.tile_rows()) <= t / plan.tile_cols()
+}
+
 /// Gives the halo's rows that no edge brings to tile `t` what lies there.
 fn set_open_rows(plan: &TilePlan, rule: &Rule, t: u32, block: &mut Block, room: &mut [i64])
     requires tile { t < tiles plan.now }
@@ -101,16 +168,9 @@ fn set_open_rows(plan: &TilePlan, rule: &Rule, t: u32, block: &mut Block, room: 
     ensures set { AreEndsSet plan.now rule.now t block.old block.new }
     ensures values { All IsValue room.new }
 {
-    let count = plan.tile_rows();
-    let have_next = nexts(plan.shape.around, count);
-    let a = t / plan.tile_cols();
-    if a == 0 && have_next < count {
-        set_rows(plan, rule, t, 0, block, room);
-    }
-    if a >= have_next {
-        let below = block.reach() + block.rows();
-        set_rows(plan, rule, t, below, block, room);
-    }
+    let below = plan.reach() + block.rows();
+    set_rows_if(plan, rule, t, opens_up(plan, t), 0, block, room);
+    set_rows_if(plan, rule, t, opens_down(plan, t), below, block, room);
 }
 
 /// Gives the halo's rows that no edge brings what lies there. All places then have the grid's reading. In `room` a row
@@ -119,7 +179,7 @@ pub(crate) fn set_ends(plan: &TilePlan, rule: &Rule, blocks: &mut [Block], room:
     requires around { rule.now.around ≡ plan.now.shape.around }
     requires reach { rule.now.weights.reach ≡ plan.now.shape.reach }
     requires blocks { AreSized plan.now blocks.old }
-    requires room { 8200 ≤ length room.old }
+    requires room { MAX_VALUES ≤ length room.old }
     requires values { All IsValue room.old }
     ensures blocks { AreSized plan.now blocks.new }
     ensures values { All IsValue room.new }

@@ -59,6 +59,8 @@ fn step(
     ensures next { (g : Plane) → Suit plan.now g rule.now → HoldGrid plan.now g blocks.old →
         HoldGrid plan.now (next_plane g rule.now) blocks.new }
 {
+    // The plan's limits, for the proof.
+    let _reach = plan.reach();
     let first = plan.first_count();
     let all = plan.edge_count();
     pass_edges(plan, 0, first, round, links, blocks, scratch);
