@@ -7,3 +7,4 @@ pub mod BringFacts
 pub mod PassFacts
 pub mod ReadFacts
 pub mod StepFacts
+pub mod GridFacts

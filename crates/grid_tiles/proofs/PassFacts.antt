@@ -17,12 +17,13 @@ use Rattle.cell_lanes.proofs.WindowFacts.{below-or}
 use Rattle.grid_tiles.specs.declared.serial_edges.Link.{Link}
 use Rattle.grid_tiles.specs.declared.TheConstants.{DOWN, LEFT, RIGHT}
 use Rattle.grid_tiles.specs.declared.tile.TileEdge.{TileEdge}
-use Rattle.grid_tiles.specs.Plan.{Plan, tiles}
+use Rattle.grid_tiles.specs.Plan.{Plan, number, tiles}
 use Rattle.grid_tiles.specs.Edges.{edges}
 use Rattle.grid_tiles.specs.Tiles.{block_at}
 use Rattle.grid_tiles.specs.Blocks.{AreLinked, AreReady, AreSized, AreBrought, HasRead, Holding, IsBrought, IsLinked, IsPut, IsReady, IsSized, Keeps, Reads, Suit, down, land_col, land_row, leave_col, leave_row, right, tall, wide}
 use Rattle.grid_tiles.proofs.BringFacts.{Brings}
 use Rattle.grid_tiles.proofs.OutsideFacts.{sized-same}
+use Rattle.grid_tiles.proofs.Planning.{number-inside}
 use Rattle.grid_tiles.proofs.SeamFacts.{read-same}
 
 -- a value of a grid is one of 64 bits
@@ -193,3 +194,8 @@ land-col p x y cols reach is many far = is ∙ (λ i. if x.tag == LEFT then far 
 -- a block that the code finds has its tile's size
 pub found-sized : (p : Plan) (blocks : List Part) (t : ℕ) (d : Part) → AreSized p blocks → t < tiles p → IsSized p t (get_or blocks t d)
 found-sized p blocks t d s less = subst (IsSized p t) (sym (block-found p blocks t d s less)) (s.each t less)
+
+-- the block of a tile, as the code finds it by the tile's row and column
+pub found-at : (p : Plan) (blocks : List Part) (a b count : ℕ) (d : Part) → AreSized p blocks → count ≡ p.tile_cols → a < p.tile_rows → b < p.tile_cols → d ≡ get_or blocks (a * count + b) d
+    → d ≡ block_at blocks (number p a b)
+found-at p blocks a b count d s same l m is = is ∙ (λ i. get_or blocks (a * same i + b) d) ∙ block-found p blocks (number p a b) d s (number-inside p a b l m)

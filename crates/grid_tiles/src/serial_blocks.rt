@@ -1,14 +1,16 @@
 //! The blocks and the messages of all tiles, as they are made, and the grid that the blocks have.
 
 ghost use Rattle.std.specs.Prelude.{◌≡◌, ◌+◌, ◌*◌, ◌<◌, ◌≤◌, ◌++◌, IfOk, length};
-ghost use Rattle.std.specs.List.{flat_map, range_with_len};
+ghost use Rattle.std.specs.List.{All, flat_map, range_with_len};
+ghost use Rattle.stencil_def.specs.Limits.{IsValue};
 ghost use Rattle.cell_lanes.specs.Block.{HoldsOwn};
 ghost use Rattle.grid_tiles.specs.Plan.{rows_of, tiles};
 ghost use Rattle.grid_tiles.specs.Tiles.{whole_row, whole_rows};
 ghost use Rattle.grid_tiles.specs.Blocks.{AreLinked, AreSized, HasRoom, HoldGrid, IsSized, left, top};
 
 use crate::serial_edges::{Link, Scratch};
-use crate::{Tile, TilePlan};
+use crate::TilePlan;
+use crate::plan::cut_at;
 use cell_lanes::Block;
 use halo_message::{ELEMENT_BYTES, MAX_MULTIPLE, MAX_VALUES, pair_at_rest};
 use std::alloc::{AllocError, Global};
@@ -69,6 +71,14 @@ pub(crate) fn all_links(alloc: Global, plan: &TilePlan) -> Result<Vec<Link>, All
     Ok(links)
 }
 
+/// So many zeros.
+fn zeros(alloc: Global, count: usize) -> Result<Vec<i64>, AllocError>
+    ensures length { IfOk result (λ zeros. length zeros.items ≡ count) }
+    ensures limits { IfOk result (λ zeros. All IsValue zeros.items) }
+{
+    vec![in alloc; 0; count]
+}
+
 /// Room for any message.
 pub(crate) fn room(alloc: Global) -> Result<Scratch, AllocError>
     ensures { IfOk result HasRoom }
@@ -76,9 +86,9 @@ pub(crate) fn room(alloc: Global) -> Result<Scratch, AllocError>
     let values = MAX_VALUES as usize;
     let bytes = ((MAX_VALUES + MAX_MULTIPLE) * ELEMENT_BYTES) as usize;
     Ok(Scratch {
-        carried: vec![in alloc; 0; values]?,
+        carried: zeros(alloc, values)?,
         bytes: vec![in alloc; 0; bytes]?,
-        arrived: vec![in alloc; 0; values]?,
+        arrived: zeros(alloc, values)?,
     })
 }
 
@@ -102,6 +112,14 @@ fn push_row(
     Ok(())
 }
 
+/// How many rows the tiles in row `a` of the tiles have.
+fn rows_of(plan: &TilePlan, a: u32) -> u32
+    requires { a < plan.now.tile_rows }
+    ensures { result ≡ rows_of plan.now a }
+{
+    cut_at(plan.rows(), plan.tile_rows(), a + 1) - cut_at(plan.rows(), plan.tile_rows(), a)
+}
+
 /// Puts the rows of the tiles in row `a` of the tiles behind some values.
 fn push_rows(
     plan: &TilePlan,
@@ -113,7 +131,7 @@ fn push_rows(
     requires blocks { AreSized plan.now blocks.now }
     ensures { IfOk result (λ _. values.new.items ≡ values.old.items ++ whole_rows plan.now blocks.now a) }
 {
-    for row in 0..blocks[(a * plan.tile_cols()) as usize].rows() {
+    for row in 0..rows_of(plan, a) {
         push_row(plan, blocks, a, row, values)?;
     }
     Ok(())
