@@ -1,9 +1,8 @@
 -- What the edges of a plan bring: an edge's cells leave own cells of its sender, or own rows with the columns that came,
 -- and land in the halo of its receiver, where the same places of the grid are read, straight on or round the grid.
-use Rattle.std.proofs.Common.{◌≡◌, ◌∙◌, refl, sym, ap, subst, ℕ, ◌+◌, ◌-◌, ◌*◌, ◌/◌, ◌%◌, ◌<◌, ◌≤◌, ℤ, pos, ◌-ℤ◌, Some, List, length, arith, inl, inr}
-use Rattle.std.specs.Prelude.{◌⊎◌, slice_get}
+use Rattle.std.proofs.Common.{◌≡◌, ◌∙◌, sym, ap, subst, ℕ, ◌+◌, ◌-◌, ◌*◌, ◌<◌, ◌≤◌, ℤ, pos, ◌-ℤ◌, Some, List, length, arith, inl, inr}
+use Rattle.std.specs.Prelude.{slice_get}
 use Rattle.std.proofs.lemmas.Nat.{div-mul-add, mod-mul-add, mul-le}
-use Rattle.std.proofs.lemmas.Bool.{cases_lt}
 use Rattle.std.proofs.lemmas.Option.{slice_get_within}
 use Rattle.stencil_def.specs.Plane.{Plane}
 use Rattle.stencil_def.specs.declared.rule.Around.{Around}

@@ -1,12 +1,11 @@
 -- Cells of a block: what copying a rectangle out, putting one in, and setting a column or a row does, by places.
-use Rattle.std.proofs.Common.{◌≡◌, ◌∙◌, refl, sym, ap, subst, ℕ, ◌+◌, ◌-◌, ◌*◌, ◌<◌, ◌≤◌, ℤ, pos, List, [], ◌∷◌, ◌++◌, length, take, drop, get_or, Option, Some, None, arith, inl, inr}
+use Rattle.std.proofs.Common.{◌≡◌, ◌∙◌, refl, sym, ap, ℕ, ◌+◌, ◌*◌, ◌<◌, ◌≤◌, ℤ, pos, List, [], ◌∷◌, ◌++◌, length, take, drop, get_or, Option, Some, None, arith}
 use Rattle.std.specs.List.{All}
-use Rattle.std.proofs.lemmas.Bool.{cases_eq}
 use Rattle.std.proofs.lemmas.List.{get_or-take, get_or-drop}
 use Rattle.std.proofs.lemmas.Nat.{mul-le}
 use Rattle.stencil_def.specs.Limits.{IsValue}
 use Rattle.stencil_def.specs.declared.rule.Rule.{Rule}
-use Rattle.cell_lanes.specs.Block.{Part, IsPart, SameSize, at, cells_at, height, width, with_cells}
+use Rattle.cell_lanes.specs.Block.{Part, IsPart, at, cells_at, height, width, with_cells}
 use Rattle.cell_lanes.proofs.BlockFacts.{put-before, put-inside}
 use Rattle.cell_lanes.proofs.PlaceFacts.{cells-at, row-room, with-inside, with-other}
 use Rattle.cell_lanes.proofs.WindowFacts.{below-or}

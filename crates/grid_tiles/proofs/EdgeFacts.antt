@@ -1,6 +1,6 @@
 -- The edges by number: of two edges for each pair of neighbours, and as many pairs in each row of tiles, edge e is of pair
 -- e / 2, which is the pair (e / 2) % n of row (e / 2) / n.
-use Rattle.std.proofs.Common.{◌≡◌, ◌∙◌, refl, sym, ap, subst, ℕ, zero, suc, ◌+◌, ◌-◌, ◌*◌, ◌/◌, ◌%◌, ◌<◌, ◌≤◌, true, false, Option, Some, List, [], ◌∷◌, ◌++◌, length, arith, inl, inr, length-append}
+use Rattle.std.proofs.Common.{◌≡◌, ◌∙◌, refl, sym, ap, ℕ, zero, suc, ◌+◌, ◌-◌, ◌*◌, ◌/◌, ◌%◌, ◌<◌, ◌≤◌, Option, Some, List, [], ◌∷◌, ◌++◌, length, arith, inl, inr, length-append}
 use Rattle.std.specs.Prelude.{◌⊎◌, nat_le, slice_get}
 use Rattle.std.specs.List.{flat_map, range_with_len}
 use Rattle.std.proofs.lemmas.Bool.{cases_Bool, cases_lt}
@@ -9,7 +9,7 @@ use Rattle.std.proofs.lemmas.Nat.{div-add-mod', div_below, mod_below, mul-add-lt
 use Rattle.stencil_def.specs.declared.rule.Around.{Around}
 use Rattle.stencil_def.specs.declared.rule.Around.TheVariants.{Fixed, Wrap}
 use Rattle.grid_tiles.specs.declared.tile.TileEdge.{TileEdge}
-use Rattle.grid_tiles.specs.Plan.{IsPlan, Plan}
+use Rattle.grid_tiles.specs.Plan.{Plan}
 use Rattle.grid_tiles.specs.Edges.{across, along, downward, edges, first_phase, leftward, next, nexts, rightward, second_phase, upward}
 
 -- the number at place k of a range that begins at a

@@ -18,7 +18,7 @@ use Rattle.cell_lanes.proofs.PlaceFacts.{own-at, row-room, with-inside, with-oth
 use Rattle.cell_lanes.proofs.WindowFacts.{below-or}
 use Rattle.grid_tiles.specs.Plan.{IsPlan, Plan, first_col, first_row, number, rows_of, tiles}
 use Rattle.grid_tiles.specs.Tiles.{block_at, gathered, whole_row, whole_rows}
-use Rattle.grid_tiles.specs.Blocks.{AreSized, HoldGrid, IsSized, Suit, left, tall, top, wide}
+use Rattle.grid_tiles.specs.Blocks.{AreSized, HoldGrid, Suit, left, tall, top, wide}
 use Rattle.grid_tiles.proofs.BringFacts.{left-of, tall-of, top-of, wide-of}
 use Rattle.grid_tiles.proofs.Planning.{cols-some, number-inside, rows-some, tile-tall, tile-wide}
 use Rattle.grid_tiles.proofs.SeamFacts.{cut-last, cut-zero}

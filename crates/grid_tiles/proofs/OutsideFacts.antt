@@ -1,14 +1,14 @@
 -- The places of the halo that no edge brings: a column, or a row, that was set has the grid's reading, and all places
 -- together have it.
-use Rattle.std.proofs.Common.{◌≡◌, ◌∙◌, refl, sym, ap, subst, ℕ, ◌+◌, ◌-◌, ◌*◌, ◌/◌, ◌%◌, ◌<◌, ◌≤◌, ℤ, pos, ◌-ℤ◌, Option, Some, None, List, length, arith, inl, inr}
-use Rattle.std.specs.Prelude.{◌==◌, ◌&&◌, Bool, true, false, nat_le, nat_lt, slice_get}
+use Rattle.std.proofs.Common.{◌≡◌, ◌∙◌, refl, sym, ap, subst, ℕ, ◌+◌, ◌-◌, ◌*◌, ◌/◌, ◌%◌, ◌<◌, ◌≤◌, pos, ◌-ℤ◌, Option, Some, None, arith, inl, inr}
+use Rattle.std.specs.Prelude.{◌==◌, Bool, true, false, nat_lt}
 use Rattle.std.proofs.lemmas.Bool.{and_parts, cases_eq, eqb-true, false≢true, leb-true, ltb-true}
 use Rattle.std.proofs.lemmas.Int.{ints}
 use Rattle.stencil_def.specs.Plane.{Plane}
 use Rattle.stencil_def.specs.declared.rule.Around.{Around}
 use Rattle.stencil_def.specs.declared.rule.Rule.{Rule}
 use Rattle.stencil_def.specs.Step.{place, read}
-use Rattle.cell_lanes.specs.Block.{Part, IsPart, SameSize, at, width}
+use Rattle.cell_lanes.specs.Block.{Part, IsPart, SameSize, at}
 use Rattle.cell_lanes.proofs.WindowFacts.{below-or}
 use Rattle.grid_tiles.specs.Plan.{IsPlan, Plan, tiles}
 use Rattle.grid_tiles.specs.Edges.{nexts}

@@ -1,6 +1,6 @@
 -- An edge's cells in its receiver's block, and the lists of blocks and of messages after that.
-use Rattle.std.proofs.Common.{◌≡◌, ◌∙◌, refl, sym, ap, subst, ℕ, ◌+◌, ◌-◌, ◌*◌, ◌<◌, ◌≤◌, ℤ, pos, Option, Some, List, [], length, length-set, get_or, set, arith, inl, inr}
-use Rattle.std.specs.Prelude.{◌⊎◌, ◌==◌, if◌then◌else◌, slice_get}
+use Rattle.std.proofs.Common.{◌≡◌, ◌∙◌, sym, ap, subst, ℕ, ◌+◌, ◌-◌, ◌*◌, ◌<◌, ◌≤◌, ℤ, pos, Option, Some, List, [], length, length-set, get_or, set, arith, inl, inr}
+use Rattle.std.specs.Prelude.{◌==◌, if◌then◌else◌, slice_get}
 use Rattle.std.specs.List.{All}
 use Rattle.std.proofs.lemmas.Bool.{cases_eq}
 use Rattle.std.proofs.lemmas.Int.{fits_signed_from_abs}
@@ -12,7 +12,7 @@ use Rattle.stencil_def.specs.Limits.{IsValue}
 use Rattle.stencil_def.specs.Plane.{Plane}
 use Rattle.stencil_def.specs.declared.rule.Rule.{Rule}
 use Rattle.halo_message.specs.Elements.{IsWord}
-use Rattle.cell_lanes.specs.Block.{Part, IsPart, SameSize, at, part_of}
+use Rattle.cell_lanes.specs.Block.{Part, at, part_of}
 use Rattle.cell_lanes.proofs.WindowFacts.{below-or}
 use Rattle.grid_tiles.specs.declared.serial_edges.Link.{Link}
 use Rattle.grid_tiles.specs.declared.TheConstants.{DOWN, LEFT, RIGHT}
@@ -20,7 +20,7 @@ use Rattle.grid_tiles.specs.declared.tile.TileEdge.{TileEdge}
 use Rattle.grid_tiles.specs.Plan.{Plan, number, tiles}
 use Rattle.grid_tiles.specs.Edges.{edges}
 use Rattle.grid_tiles.specs.Tiles.{block_at}
-use Rattle.grid_tiles.specs.Blocks.{AreLinked, AreReady, AreSized, AreBrought, HasRead, Holding, IsBrought, IsLinked, IsPut, IsReady, IsSized, Keeps, Reads, Suit, down, land_col, land_row, leave_col, leave_row, right, tall, wide}
+use Rattle.grid_tiles.specs.Blocks.{AreLinked, AreSized, HasRead, Holding, IsBrought, IsLinked, IsPut, IsReady, IsSized, Keeps, Suit, down, land_col, land_row, leave_col, leave_row, right, tall, wide}
 use Rattle.grid_tiles.proofs.BringFacts.{Brings}
 use Rattle.grid_tiles.proofs.OutsideFacts.{sized-same}
 use Rattle.grid_tiles.proofs.Planning.{number-inside}

@@ -1,7 +1,7 @@
 -- All places of all blocks have the grid's reading: own cells, what the edges brought, and what lies where no edge brings
 -- anything. Where something else lies before a tile, it is the next one of some tile.
-use Rattle.std.proofs.Common.{◌≡◌, ◌∙◌, refl, sym, ap, subst, ℕ, ◌+◌, ◌-◌, ◌*◌, ◌/◌, ◌%◌, ◌<◌, ◌≤◌, Bool, true, false, List, length, arith, inl, inr}
-use Rattle.std.specs.Prelude.{◌⊎◌, ◌==◌, ◌&&◌, nat_le, nat_lt, slice_get}
+use Rattle.std.proofs.Common.{◌≡◌, ◌∙◌, sym, ap, subst, ℕ, ◌+◌, ◌-◌, ◌*◌, ◌/◌, ◌%◌, ◌<◌, ◌≤◌, true, false, List, length, arith, inl, inr}
+use Rattle.std.specs.Prelude.{◌==◌, ◌&&◌, nat_le, nat_lt}
 use Rattle.std.proofs.lemmas.Bool.{cases_Bool, cases_eq, false≢true}
 use Rattle.std.proofs.lemmas.Bool.Decides.{nat_tests}
 use Rattle.std.proofs.lemmas.Nat.{div-add-mod'}
@@ -11,15 +11,13 @@ use Rattle.stencil_def.specs.declared.rule.Around.TheVariants.{Fixed, Wrap}
 use Rattle.stencil_def.specs.declared.rule.Rule.{Rule}
 use Rattle.cell_lanes.specs.Block.{Part}
 use Rattle.cell_lanes.proofs.WindowFacts.{below-or}
-use Rattle.grid_tiles.specs.declared.tile.TileEdge.{TileEdge}
 use Rattle.grid_tiles.specs.Plan.{IsPlan, Plan, number, tiles}
 use Rattle.grid_tiles.specs.Edges.{downward, edges, first_phase, leftward, next, nexts, rightward, upward}
 use Rattle.grid_tiles.specs.Tiles.{block_at}
-use Rattle.grid_tiles.specs.Blocks.{AllRead, AreBrought, AreEndsSet, AreSidesSet, HasRead, IsBrought, OwnRead, Reads, SidesRead, Suit, opens_down, opens_left, opens_right, opens_up, tall, wide}
-use Rattle.grid_tiles.proofs.BringFacts.{tall-of, wide-of}
+use Rattle.grid_tiles.specs.Blocks.{AllRead, AreBrought, AreEndsSet, AreSidesSet, HasRead, OwnRead, Reads, SidesRead, Suit, opens_down, opens_left, opens_right, opens_up, tall, wide}
 use Rattle.grid_tiles.proofs.EdgeFacts.{first-there, second-there}
-use Rattle.grid_tiles.proofs.Planning.{cols-some, rows-some, tile-at}
-use Rattle.grid_tiles.proofs.SeamFacts.{next-last, next-more, wrap-one, wrap-two}
+use Rattle.grid_tiles.proofs.Planning.{tile-at}
+use Rattle.grid_tiles.proofs.SeamFacts.{next-last, next-more, wrap-two}
 
 -- the place whose next one is i
 pub record IsNext (around : Around) (n i : ℕ) : Type 0 where

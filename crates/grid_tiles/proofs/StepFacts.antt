@@ -1,14 +1,14 @@
 -- A step of all blocks: a block whose places have the grid's reading makes its step.
-use Rattle.std.proofs.Common.{◌≡◌, ◌∙◌, sym, ap, subst, ℕ, ◌+◌, ◌*◌, ◌<◌, pos, ◌-ℤ◌, List, arith}
+use Rattle.std.proofs.Common.{◌≡◌, ◌∙◌, sym, ℕ, ◌+◌, ◌<◌, pos, ◌-ℤ◌, List, arith}
 use Rattle.std.proofs.lemmas.Int.{ints}
-use Rattle.stencil_def.specs.Plane.{Plane, cell}
+use Rattle.stencil_def.specs.Plane.{Plane}
 use Rattle.stencil_def.specs.declared.rule.Rule.{Rule}
 use Rattle.stencil_def.specs.Step.{fold_plane, read}
 use Rattle.stencil_def.proofs.FoldFacts.{fold-cols, fold-rows}
 use Rattle.cell_lanes.specs.Block.{Part, Holds, IsInside, at}
 use Rattle.grid_tiles.specs.Plan.{IsPlan, Plan, tiles}
 use Rattle.grid_tiles.specs.Tiles.{block_at}
-use Rattle.grid_tiles.specs.Blocks.{AllRead, AreSized, HoldGrid, IsSized, Keeps, OwnRead, SidesRead, Suit, left, tall, top, wide}
+use Rattle.grid_tiles.specs.Blocks.{AllRead, AreSized, HoldGrid, IsSized, Keeps, OwnRead, SidesRead, Suit, left, top}
 use Rattle.grid_tiles.proofs.Planning.{tile-tall, tile-wide}
 use Rattle.grid_tiles.proofs.SeamFacts.{read-inside}
 

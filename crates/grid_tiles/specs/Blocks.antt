@@ -1,8 +1,7 @@
 -- The blocks and the messages of all tiles while a step is made: for private functions.
-use Rattle.std.specs.Prelude.{◌≡◌, ℕ, ◌+◌, ◌-◌, ◌*◌, ◌/◌, ◌%◌, ◌<◌, ◌≤◌, ◌==◌, ◌&&◌, if◌then◌else◌, Bool, true, nat_le, nat_lt, ℤ, pos, ◌-ℤ◌, List, Option, Some, None}
+use Rattle.std.specs.Prelude.{◌≡◌, ℕ, ◌+◌, ◌*◌, ◌/◌, ◌%◌, ◌<◌, ◌≤◌, ◌==◌, ◌&&◌, if◌then◌else◌, Bool, true, nat_le, nat_lt, ℤ, pos, ◌-ℤ◌, List, Option, Some, None}
 use Rattle.std.specs.Prelude.{length, slice_get, slice_index_or}
 use Rattle.std.specs.List.{All}
-use Rattle.part_geometry.specs.Shape.{Shape}
 use Rattle.stencil_def.specs.Limits.{IsValue}
 use Rattle.stencil_def.specs.Plane.{Plane}
 use Rattle.stencil_def.specs.declared.rule.Rule.{Rule}

@@ -57,6 +57,9 @@ impl SerialTiles {
         requires around { rule.around ≡ plan.shape.around }
         ensures { IfOk result (λ tiles. tiles ≡ first_tiles plan rule grid.now) }
     {
+        // The limits of the plan and of the grid, for the proof.
+        let _reach = plan.reach();
+        let _rows = grid.rows();
         let blocks = all_blocks(alloc, &plan, grid)?;
         let links = all_links(alloc, &plan)?;
         let scratch = room(alloc)?;
@@ -80,6 +83,8 @@ impl SerialTiles {
         requires { self.old.steps + steps ≤ LAST_ROUND }
         ensures { self.new ≡ tiles_after self.old steps }
     {
+        // The plan's limits, for the proof.
+        let _reach = self.plan.reach();
         run_steps(
             &self.plan,
             &self.rule,
@@ -99,7 +104,8 @@ impl SerialTiles {
         ensures grid { IfOk result (λ grid. grid ≡ self.now.grid) }
         ensures limits { IfOk result IsPlane }
     {
+        let (rows, cols) = (self.plan.rows(), self.plan.cols());
         let values = all_rows(alloc, &self.plan, &self.blocks)?;
-        Ok(Grid::from_values(self.plan.rows(), self.plan.cols(), values))
+        Ok(Grid::from_values(rows, cols, values))
     }
 }

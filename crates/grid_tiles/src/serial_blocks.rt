@@ -8,9 +8,9 @@ ghost use Rattle.grid_tiles.specs.Plan.{rows_of, tiles};
 ghost use Rattle.grid_tiles.specs.Tiles.{whole_row, whole_rows};
 ghost use Rattle.grid_tiles.specs.Blocks.{AreLinked, AreSized, HasRoom, HoldGrid, IsSized, left, top};
 
-use crate::serial_edges::{Link, Scratch};
 use crate::TilePlan;
 use crate::plan::cut_at;
+use crate::serial_edges::{Link, Scratch};
 use cell_lanes::Block;
 use halo_message::{ELEMENT_BYTES, MAX_MULTIPLE, MAX_VALUES, pair_at_rest};
 use std::alloc::{AllocError, Global};

@@ -1,4 +1,4 @@
-use Rattle.std.proofs.Common.{◌≡◌, ◌∙◌, ap, ◌+◌, ◌++◌, [], ◌∷◌, length, length-append, arith}
+use Rattle.std.proofs.Common.{◌∙◌, ap, ◌+◌, [], ◌∷◌, length, length-append}
 use Rattle.cell_lanes.specs.Block.{HoldsOwn, part_of}
 use Rattle.grid_tiles.specs.Blocks.{IsSized, left, top}
 use Rattle.grid_tiles.proofs.GridFacts.{pushed}

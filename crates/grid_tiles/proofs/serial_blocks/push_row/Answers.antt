@@ -1,4 +1,4 @@
-use Rattle.std.proofs.Common.{◌≡◌, ◌∙◌, ap, ◌+◌, ◌*◌, ◌++◌, arith}
+use Rattle.std.proofs.Common.{◌∙◌, ap, ◌+◌, ◌*◌, ◌++◌, arith}
 use Rattle.cell_lanes.specs.Block.{Part, own_cells}
 use Rattle.grid_tiles.specs.Plan.{number}
 use Rattle.grid_tiles.specs.Tiles.{block_at}

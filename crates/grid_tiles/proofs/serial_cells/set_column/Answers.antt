@@ -1,4 +1,4 @@
-use Rattle.std.proofs.Common.{◌≡◌, ◌∙◌, sym, to_z, of_z, w64, arith}
+use Rattle.std.proofs.Common.{◌∙◌, sym, to_z, of_z, w64, arith}
 use Rattle.cell_lanes.proofs.LaneFacts.{back}
 use Rattle.grid_tiles.proofs.CellFacts.{column-next}
 use Rattle.grid_tiles.proofs.serial_cells.set_column.Goals as goal

@@ -1,11 +1,10 @@
-use Rattle.std.proofs.Common.{◌≡◌, ◌∙◌, refl, sym, ap, subst, ℕ, ◌+◌, ◌*◌, ◌<◌, ℤ, pos, List, length, get_or, set, arith}
-use Rattle.cell_lanes.specs.Block.{Part, at}
-use Rattle.grid_tiles.specs.declared.tile.TileEdge.{TileEdge}
-use Rattle.grid_tiles.specs.Blocks.{HasRead, Holding, IsPut, IsReady, Suit, land_col, land_row, leave_col, leave_row}
+use Rattle.std.proofs.Common.{◌∙◌, subst, ℕ, ◌+◌, ◌<◌, ℤ, List, get_or, arith}
+use Rattle.cell_lanes.specs.Block.{Part}
+use Rattle.grid_tiles.specs.Blocks.{HasRead, Holding, IsPut, IsReady, Suit, land_col, land_row}
 use Rattle.stencil_def.specs.Plane.{Plane}
 use Rattle.stencil_def.specs.declared.rule.Rule.{Rule}
-use Rattle.grid_tiles.proofs.BringFacts.{Brings, edge-brings}
-use Rattle.grid_tiles.proofs.PassFacts.{all-words, block-found, brought-set, cells-brought, cells-keep, found-sized, keeps-set, land-col, land-row, leave-col, leave-row, put-sized, sized-set}
+use Rattle.grid_tiles.proofs.BringFacts.{edge-brings}
+use Rattle.grid_tiles.proofs.PassFacts.{block-found, brought-set, cells-brought, cells-keep, found-sized, keeps-set, land-col, land-row, leave-col, leave-row, put-sized, sized-set}
 use Rattle.grid_tiles.proofs.serial_edges.carry_edge.Goals as goal
 
 pub bounds-blocks-edge : goal.bounds-blocks-edge

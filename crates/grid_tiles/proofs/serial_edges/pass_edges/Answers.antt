@@ -1,9 +1,8 @@
-use Rattle.std.proofs.Common.{◌≡◌, ◌∙◌, sym, ap, subst, ◌-◌, ◌<◌, Some, length, arith}
+use Rattle.std.proofs.Common.{◌≡◌, ◌∙◌, sym, ap, subst, ◌-◌, arith}
 use Rattle.std.specs.Prelude.{slice_get}
 use Rattle.cell_lanes.proofs.WindowFacts.{below-or}
 use Rattle.grid_tiles.specs.Edges.{edges}
 use Rattle.grid_tiles.specs.Blocks.{AreLinked, IsBrought}
-use Rattle.grid_tiles.specs.declared.tile.TileEdge.{TileEdge}
 use Rattle.grid_tiles.proofs.BringFacts.{edge-brings}
 use Rattle.grid_tiles.proofs.EdgeFacts.{same-edge}
 use Rattle.grid_tiles.proofs.PassFacts.{brought-kept, keeps-more, linked-next, ready-kept}

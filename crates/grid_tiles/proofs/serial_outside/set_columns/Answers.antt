@@ -1,4 +1,4 @@
-use Rattle.std.proofs.Common.{◌≡◌, ◌∙◌, refl, sym, ap, ◌+◌, arith}
+use Rattle.std.proofs.Common.{◌∙◌, refl, sym, ap, ◌+◌, arith}
 use Rattle.grid_tiles.specs.declared.tile.Tile.{Tile}
 use Rattle.grid_tiles.specs.Blocks.{left}
 use Rattle.grid_tiles.proofs.OutsideFacts.{columns-next, columns-none, found}

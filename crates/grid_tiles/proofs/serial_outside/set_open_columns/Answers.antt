@@ -1,5 +1,4 @@
-use Rattle.std.proofs.Common.{◌≡◌, ◌∙◌, sym, ap, ◌+◌, arith}
-use Rattle.grid_tiles.specs.Blocks.{wide}
+use Rattle.std.proofs.Common.{◌∙◌, sym, ◌+◌, arith}
 use Rattle.grid_tiles.proofs.OutsideFacts.{open-left, open-right, sides-set}
 use Rattle.grid_tiles.proofs.serial_outside.set_open_columns.Goals as goal
 

@@ -1,4 +1,4 @@
-use Rattle.std.proofs.Common.{◌≡◌, ◌∙◌, sym, ap, ◌+◌, arith}
+use Rattle.std.proofs.Common.{◌∙◌, sym, ◌+◌, arith}
 use Rattle.grid_tiles.proofs.OutsideFacts.{ends-set, open-down, open-up}
 use Rattle.grid_tiles.proofs.serial_outside.set_open_rows.Goals as goal
 

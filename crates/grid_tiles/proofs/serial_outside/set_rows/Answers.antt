@@ -1,4 +1,4 @@
-use Rattle.std.proofs.Common.{◌≡◌, ◌∙◌, refl, sym, ap, ◌+◌, arith}
+use Rattle.std.proofs.Common.{◌∙◌, refl, sym, ap, ◌+◌, arith}
 use Rattle.grid_tiles.specs.declared.tile.Tile.{Tile}
 use Rattle.grid_tiles.specs.Blocks.{top}
 use Rattle.grid_tiles.proofs.OutsideFacts.{found, rows-next, rows-none}

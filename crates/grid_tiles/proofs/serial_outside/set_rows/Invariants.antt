@@ -1,4 +1,3 @@
-use Rattle.std.proofs.Common.{◌≡◌, length}
 use Rattle.std.specs.List.{All}
 use Rattle.stencil_def.specs.Limits.{IsValue}
 use Rattle.grid_tiles.specs.Blocks.{RowsSet}

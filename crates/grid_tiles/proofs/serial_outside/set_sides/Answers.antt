@@ -1,4 +1,4 @@
-use Rattle.std.proofs.Common.{◌∙◌, sym, subst, get_or, set, arith}
+use Rattle.std.proofs.Common.{◌∙◌, sym, subst, arith}
 use Rattle.cell_lanes.specs.Block.{Part}
 use Rattle.grid_tiles.specs.Tiles.{block_at}
 use Rattle.grid_tiles.specs.Blocks.{AreSidesSet, IsSized}

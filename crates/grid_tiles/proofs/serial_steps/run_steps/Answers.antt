@@ -1,4 +1,4 @@
-use Rattle.std.proofs.Common.{◌≡◌, ◌∙◌, sym, ap, subst, ◌+◌, ◌-◌, arith}
+use Rattle.std.proofs.Common.{◌≡◌, sym, subst, ◌+◌, ◌-◌, arith}
 use Rattle.stencil_def.specs.Step.{fold_plane}
 use Rattle.stencil_def.proofs.StepFacts.{fold-more, fold-none}
 use Rattle.grid_tiles.specs.Blocks.{AreLinked, HoldGrid}

@@ -1,5 +1,5 @@
-use Rattle.std.proofs.Common.{◌≡◌, ◌∙◌, ap, subst, ◌+◌, ◌-◌, length, arith}
-use Rattle.grid_tiles.specs.Edges.{edges, first_phase}
+use Rattle.std.proofs.Common.{subst, ◌-◌, length, arith}
+use Rattle.grid_tiles.specs.Edges.{edges}
 use Rattle.grid_tiles.specs.Blocks.{AreBrought}
 use Rattle.grid_tiles.proofs.BringFacts.{all-first, all-second}
 use Rattle.grid_tiles.proofs.EdgeFacts.{edges-many}

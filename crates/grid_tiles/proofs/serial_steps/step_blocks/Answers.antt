@@ -1,6 +1,6 @@
-use Rattle.std.proofs.Common.{◌∙◌, sym, ap, subst, get_or, set, arith}
+use Rattle.std.proofs.Common.{◌∙◌, sym, ap, subst, arith}
 use Rattle.stencil_def.specs.Step.{next_plane}
-use Rattle.cell_lanes.specs.Block.{Holds, HoldsOwn, IsInside, Part}
+use Rattle.cell_lanes.specs.Block.{Holds, HoldsOwn, Part}
 use Rattle.grid_tiles.specs.Blocks.{left, top}
 use Rattle.grid_tiles.proofs.OutsideFacts.{sized-same}
 use Rattle.grid_tiles.proofs.PassFacts.{block-found, each-next, found-sized, rest-next, sized-set}

@@ -1,4 +1,4 @@
-use Rattle.std.proofs.Common.{◌≡◌, ◌∙◌, sym, ap, ◌*◌}
+use Rattle.std.proofs.Common.{◌∙◌, sym, ap, ◌*◌}
 use Rattle.grid_tiles.specs.Plan.{Plan}
 use Rattle.grid_tiles.specs.Edges.{nexts}
 use Rattle.grid_tiles.proofs.EdgeFacts.{first-many}

@@ -1,4 +1,4 @@
-use Rattle.std.proofs.Common.{◌≡◌, ◌∙◌, sym, ap, subst, ◌+◌, ◌/◌, ◌%◌, ◌<◌, Some, arith}
+use Rattle.std.proofs.Common.{◌∙◌, sym, ap, subst, ◌/◌, ◌%◌, ◌<◌, Some, arith}
 use Rattle.grid_tiles.specs.declared.tile.TileEdge.{TileEdge}
 use Rattle.grid_tiles.specs.Plan.{Plan}
 use Rattle.grid_tiles.specs.Edges.{downward, next, nexts, upward}

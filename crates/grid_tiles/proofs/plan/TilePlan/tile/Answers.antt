@@ -1,6 +1,5 @@
-use Rattle.std.proofs.Common.{◌∙◌, ap, subst, ◌+◌, ◌/◌, ◌%◌, arith}
+use Rattle.std.proofs.Common.{◌/◌, ◌%◌, arith}
 use Rattle.grid_tiles.specs.Kept.{plan_of}
-use Rattle.grid_tiles.specs.Plan.{IsPlan, Plan, first_row}
 use Rattle.grid_tiles.proofs.Planning.{cols-some, rows-some}
 use Rattle.grid_tiles.proofs.plan.TilePlan.tile.Goals as goal
 
