@@ -5,6 +5,7 @@ pub mod cell_lanes_caller;
 pub mod event_check_caller;
 pub mod gate_word_caller;
 pub mod grid_text_caller;
+pub mod grid_tiles_caller;
 pub mod halo_message_caller;
 pub mod halo_plan_caller;
 pub mod init_match_caller;

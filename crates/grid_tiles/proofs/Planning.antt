@@ -96,3 +96,15 @@ tile-wide p t v less =
     let b = t % p.tile_cols in let inside = (tile-at p t v less).1 in
     let end = cut-inside p.cols p.tile_cols (b + 1) (omega arith) (omega arith) in let some = cols-some p b v in
     omega arith
+
+-- and so have its rows with more columns at both sides
+row-values : (p : Plan) (b : ℕ) → IsPlan p → b < p.tile_cols → IsWithin 1 MAX_VALUES (p.shape.reach * (cols_of p b + 2 * p.shape.reach))
+row-values p b v less =
+    let near = v.shape.reach in let side = v.cols in let some = cols-some p b v in
+    let end = cut-inside p.cols p.tile_cols (b + 1) (omega arith) (omega arith) in
+    let least = mul-le 1 1 p.shape.reach (cols_of p b + 2 * p.shape.reach) near.0 (omega arith) in
+    let most = mul-le p.shape.reach (cols_of p b + 2 * p.shape.reach) 2 4100 near.1 (omega arith) in
+    (omega arith, omega arith)
+
+pub rows-found : (p : Plan) (b reach count : ℕ) → IsPlan p → b < p.tile_cols → reach ≡ p.shape.reach → count ≡ cols_of p b + 2 * p.shape.reach → IsWithin 1 MAX_VALUES (reach * count)
+rows-found p b reach count v less near many = subst (IsWithin 1 MAX_VALUES) (λ i. sym near i * sym many i) (row-values p b v less)

@@ -1,11 +1,12 @@
 //! The edges of a plan.
 
-ghost use Rattle.std.specs.Prelude.{◌≡◌, ◌<◌, ◌≤◌, ◌+◌, ◌-◌, ◌*◌, ◌==◌, if◌then◌else◌, Some, length, slice_get};
+ghost use Rattle.std.specs.Prelude.{◌≡◌, ◌<◌, ◌≤◌, ◌+◌, ◌*◌, ◌-ℤ◌, Some, length, pos, slice_get};
 ghost use Rattle.part_geometry.specs.declared.TheConstants.{MAX_RANKS};
 ghost use Rattle.part_geometry.specs.Shape.{IsShape, IsWithin, send_total};
 ghost use Rattle.halo_message.specs.declared.TheConstants.{ELEMENT_BYTES};
 ghost use Rattle.halo_message.specs.Message.{elements};
 ghost use Rattle.grid_tiles.specs.declared.tile.TileEdge.{TileEdge};
+ghost use Rattle.grid_tiles.specs.Plan.{cols_of, first_col};
 ghost use Rattle.grid_tiles.specs.Edges.{IsEdge, downward, edges, first_phase, leftward, message_of, next, nexts};
 ghost use Rattle.grid_tiles.specs.Edges.{rightward, second_phase, shape_of, upward};
 
@@ -78,6 +79,19 @@ impl TilePlan {
         }
     }
 
+    /// The first of the columns that the tiles in column `b` send with their rows, and how many these are: as many more
+    /// at both sides as the weights reach.
+    fn with_sides(&self, b: u32) -> (i64, u32)
+        requires { b < self.now.tile_cols }
+        ensures first { result.0 ≡ pos (first_col self.now b) -ℤ pos self.now.shape.reach }
+        ensures count { result.1 ≡ cols_of self.now b + 2 * self.now.shape.reach }
+    {
+        let left = cut_at(self.cols, self.tile_cols, b);
+        let count = cut_at(self.cols, self.tile_cols, b + 1) - left;
+        let reach = self.shape.reach;
+        (i64::from(left) - i64::from(reach), count + 2 * reach)
+    }
+
     /// The edge that carries the last rows of the tile in row `a` and column `b` to the one in row `d`.
     fn downward(&self, a: u32, b: u32, d: u32) -> TileEdge
         requires from { a < self.now.tile_rows }
@@ -86,7 +100,7 @@ impl TilePlan {
         ensures value { result ≡ downward self.now a b d }
         ensures limits { IsEdge self.now result }
     {
-        let left = cut_at(self.cols, self.tile_cols, b);
+        let (first_col, cols) = self.with_sides(b);
         let reach = self.shape.reach;
         TileEdge {
             from: a * self.tile_cols + b,
@@ -94,8 +108,8 @@ impl TilePlan {
             tag: DOWN,
             first_row: i64::from(cut_at(self.rows, self.tile_rows, a + 1)) - i64::from(reach),
             rows: reach,
-            first_col: i64::from(left) - i64::from(reach),
-            cols: cut_at(self.cols, self.tile_cols, b + 1) - left + 2 * reach,
+            first_col,
+            cols,
         }
     }
 
@@ -107,7 +121,7 @@ impl TilePlan {
         ensures value { result ≡ upward self.now a b d }
         ensures limits { IsEdge self.now result }
     {
-        let left = cut_at(self.cols, self.tile_cols, b);
+        let (first_col, cols) = self.with_sides(b);
         let reach = self.shape.reach;
         TileEdge {
             from: d * self.tile_cols + b,
@@ -115,8 +129,8 @@ impl TilePlan {
             tag: UP,
             first_row: i64::from(cut_at(self.rows, self.tile_rows, d)),
             rows: reach,
-            first_col: i64::from(left) - i64::from(reach),
-            cols: cut_at(self.cols, self.tile_cols, b + 1) - left + 2 * reach,
+            first_col,
+            cols,
         }
     }
 
