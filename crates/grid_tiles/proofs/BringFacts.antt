@@ -21,6 +21,7 @@ use Rattle.grid_tiles.proofs.SeamFacts.{next-last, next-more, seam, wrap-one}
 
 -- ---- a tile by its row and column
 
+-- its first row and how many it has are those of its row, and its columns those of its column
 pub top-of : (p : Plan) (a b : ℕ) → b < p.tile_cols → top p (number p a b) ≡ first_row p a
 top-of p a b less = ap (first_row p) (div-mul-add a p.tile_cols b less)
 
@@ -38,6 +39,7 @@ has-two : (around : Around) (n i : ℕ) → i < nexts around n → 2 ≤ n
 has-two Fixed n i less = omega arith
 has-two Wrap n i less = below-or n 2 (λ few. let none = wrap-one n few in absurd (omega arith)) (λ two. two)
 
+-- the next of some places is one of them
 pub next-inside : (n i : ℕ) → i < n → next n i < n
 next-inside n i less = below-or (i + 1) n
     (λ more. let e = next-more n i (λ s. omega arith) in omega arith)
@@ -52,6 +54,7 @@ by-rows p g rule z s = λ i. place (s.around i) (s.rows i) z
 by-cols : (p : Plan) (g : Plane) (rule : Rule) (z : ℤ) → Suit p g rule → place rule.around g.cols z ≡ place p.shape.around p.cols z
 by-cols p g rule z s = λ i. place (s.around i) (s.cols i) z
 
+-- a tile begins where the one whose next it is ends
 seam-cols : (p : Plan) (b m : ℕ) → IsPlan p → b < nexts p.shape.around p.tile_cols
     → place p.shape.around p.cols (pos (first_col p (next p.tile_cols b) + m) -ℤ pos p.shape.reach) ≡ place p.shape.around p.cols (pos (first_col p (b + 1) + m) -ℤ pos p.shape.reach)
 seam-cols p b m v less =
@@ -62,6 +65,7 @@ seam-cols p b m v less =
       | inr more ↦ let k = mul-le 1 p.shape.reach p.tile_cols p.shape.reach (omega arith) (omega arith) in omega arith
     ])
 
+-- and so with rows
 seam-rows : (p : Plan) (a m : ℕ) → IsPlan p → a < nexts p.shape.around p.tile_rows
     → place p.shape.around p.rows (pos (first_row p (next p.tile_rows a) + m) -ℤ pos p.shape.reach) ≡ place p.shape.around p.rows (pos (first_row p (a + 1) + m) -ℤ pos p.shape.reach)
 seam-rows p a m v less =
@@ -84,6 +88,7 @@ pub record Brings (p : Plan) (x : TileEdge) : Type 0 where
   pub rows : (g : Plane) (rule : Rule) (k : ℕ) → Suit p g rule → place rule.around g.rows (down p x.to (land_row p x + k)) ≡ place rule.around g.rows (down p x.from (leave_row p x + k))
   pub cols : (g : Plane) (rule : Rule) (j : ℕ) → Suit p g rule → place rule.around g.cols (right p x.to (land_col p x + j)) ≡ place rule.around g.cols (right p x.from (leave_col p x + j))
 
+-- the last columns of a tile, to its right neighbour
 right-brings : (p : Plan) (a b : ℕ) → IsPlan p → a < p.tile_rows → b < nexts p.shape.around p.tile_cols → Brings p (rightward p a b (next p.tile_cols b))
 right-brings p a b v l m =
     let c = next p.tile_cols b in let h = p.shape.reach in
@@ -113,6 +118,7 @@ right-brings p a b v l m =
           ∙ sym (by-cols p g rule (right p (number p a b) (wide p (number p a b) + j)) s);
     }
 
+-- the neighbour's first ones, back
 left-brings : (p : Plan) (a b : ℕ) → IsPlan p → a < p.tile_rows → b < nexts p.shape.around p.tile_cols → Brings p (leftward p a b (next p.tile_cols b))
 left-brings p a b v l m =
     let c = next p.tile_cols b in let h = p.shape.reach in
@@ -142,6 +148,7 @@ left-brings p a b v l m =
           ∙ sym (by-cols p g rule (right p (number p a c) (h + j)) s);
     }
 
+-- the last rows of a tile, to its lower neighbour
 down-brings : (p : Plan) (a b : ℕ) → IsPlan p → a < nexts p.shape.around p.tile_rows → b < p.tile_cols → Brings p (downward p a b (next p.tile_rows a))
 down-brings p a b v l m =
     let d = next p.tile_rows a in let h = p.shape.reach in
@@ -171,6 +178,7 @@ down-brings p a b v l m =
       cols = λ g rule j s. ap (λ q. place rule.around g.cols (pos (q + (0 + j)) -ℤ pos h)) (f' ∙ sym f);
     }
 
+-- the neighbour's first ones, back
 up-brings : (p : Plan) (a b : ℕ) → IsPlan p → a < nexts p.shape.around p.tile_rows → b < p.tile_cols → Brings p (upward p a b (next p.tile_rows a))
 up-brings p a b v l m =
     let d = next p.tile_rows a in let h = p.shape.reach in
@@ -200,6 +208,7 @@ up-brings p a b v l m =
       cols = λ g rule j s. ap (λ q. place rule.around g.cols (pos (q + (0 + j)) -ℤ pos h)) (f ∙ sym f');
     }
 
+-- each edge of the first phase, and of the second
 pub first-brings : (p : Plan) (x : TileEdge) → IsPlan p → IsFirst p x → Brings p x
 first-brings p x v s = elim s.is [
   | inl e ↦ subst (Brings p) (sym e) (right-brings p s.a s.b v s.row s.place)
@@ -220,6 +229,7 @@ edge-brings p e x v at = below-or e (length (first_phase p))
 
 -- ---- what is ready to be sent
 
+-- the cells of an edge of the first phase are own cells
 first-ready : (p : Plan) (g : Plane) (rule : Rule) (blocks : List Part) (x : TileEdge) → IsPlan p → OwnRead p g rule blocks → IsFirst p x → IsReady p g rule blocks x
 first-ready p g rule blocks x v own s = elim s.is [
   | inl e ↦ subst (IsReady p g rule blocks) (sym e)
@@ -243,6 +253,7 @@ first-ready p g rule blocks x v own s = elim s.is [
       own (number p s.a c) k j (number-inside p s.a c s.row there) (omega arith) (omega arith))
 ]
 
+-- those of the second are own rows with the halo's columns
 second-ready : (p : Plan) (g : Plane) (rule : Rule) (blocks : List Part) (x : TileEdge) → IsPlan p → SidesRead p g rule blocks → IsSecond p x → IsReady p g rule blocks x
 second-ready p g rule blocks x v sides s = elim s.is [
   | inl e ↦ subst (IsReady p g rule blocks) (sym e)

@@ -18,6 +18,7 @@ pub record CellsCopied (b : Part) (y x cols n : ℕ) (out : List ℤ) : Type 0 w
   pub cells : (k j : ℕ) → k < n → j < cols → get_or out (k * cols + j) (pos 0) ≡ at b (y + k) (x + j)
   pub values : All IsValue out
 
+-- one more row
 pub copy-next : (b : Part) (y x cols k start n : ℕ) (out new : List ℤ) → CellsCopied b y x cols k out → start ≡ k * cols → n ≡ cols → start + n ≤ length out
     → new ≡ cells_at b (y + k) x cols → length new ≡ n → All IsValue (take start out ++ (new ++ drop n (drop start out)))
     → CellsCopied b y x cols (k + 1) (take start out ++ (new ++ drop n (drop start out)))
@@ -36,6 +37,7 @@ copy-next b y x cols k start n out new s place wide room is long fine = record {
 
 -- ---- a rectangle put in
 
+-- before the first row
 pub put-none : (b : Part) (y x cols : ℕ) (values : List ℤ) → IsPart b → IsPut y x 0 cols values b b
 put-none b y x cols values s = record {
   cells = λ k j less lt. absurd (omega arith);
@@ -44,6 +46,7 @@ put-none b y x cols values s = record {
   limits = s;
 }
 
+-- one more row
 pub put-next : (y x k cols start n : ℕ) (values cells : List ℤ) (old b new : Part) → IsPut y x k cols values old b → start ≡ k * cols → n ≡ cols → cells ≡ take n (drop start values)
     → length cells ≡ n → y + k < height old → x + cols ≤ width old → new ≡ with_cells (y + k) x cells b → IsPart new
     → IsPut y x (k + 1) cols values old new
@@ -77,6 +80,7 @@ put-next y x k cols start n values cells old b new s place wide is long low fits
 
 -- ---- a column
 
+-- before the first own row
 pub column-none : (rule : Rule) (source : Option ℕ) (x : ℕ) (b : Part) → IsPart b → IsColumnSet rule source x 0 b b
 column-none rule source x b s = record {
   edge = λ e row less. absurd (omega arith);
@@ -86,6 +90,7 @@ column-none rule source x b s = record {
   limits = s;
 }
 
+-- one more own row
 pub column-next : (rule : Rule) (source : Option ℕ) (x n reach : ℕ) (value : ℤ) (old b new : Part) → IsColumnSet rule source x n old b → x < width old → n < old.rows
     → (source ≡ None → value ≡ rule.edge) → ((col : ℕ) → source ≡ Some col → value ≡ at b (b.reach + n) (b.reach + col))
     → ((col : ℕ) → source ≡ Some col → col < old.cols) → reach ≡ old.reach → new ≡ with_cells (reach + n) x (value ∷ []) b → IsPart new
@@ -122,6 +127,7 @@ column-next rule source x n reach value old b new s fits low none some inside fa
 
 -- ---- a row
 
+-- a row that was made beside the block, and put
 pub row-set : (rule : Rule) (source : Option ℕ) (y : ℕ) (out : List ℤ) (b new : Part) → IsPart b → y < height b → length out ≡ width b
     → (source ≡ None → (x : ℕ) → x < width b → get_or out x (pos 0) ≡ rule.edge)
     → ((row : ℕ) → source ≡ Some row → (x : ℕ) → x < width b → get_or out x (pos 0) ≡ at b (b.reach + row) x)

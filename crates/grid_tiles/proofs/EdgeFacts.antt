@@ -79,6 +79,7 @@ pub record IsPair (m n e : ℕ) : Type 0 where
   pub place : e / 2 % n < n
   pub whole : e / 2 / n * n + e / 2 % n ≡ e / 2
 
+-- each edge has them
 pair-of : (m n e : ℕ) → e < 2 * (m * n) → IsPair m n e
 pair-of m n e less = elim-zero n refl
   where
@@ -88,6 +89,7 @@ pair-of m n e less = elim-zero n refl
         let some : 0 < n = omega arith in
         record { some = some; row = div_below (e / 2) n m some (omega arith); place = mod_below (e / 2) n some; whole = div-add-mod' (e / 2) n }
 
+-- how many edges the phases have
 pub first-many : (p : Plan) → length (first_phase p) ≡ 2 * (p.tile_rows * nexts p.shape.around p.tile_cols)
 first-many p = pairs-many (across p) p.tile_rows (nexts p.shape.around p.tile_cols) (λ a b. refl)
 
@@ -98,6 +100,7 @@ pub edges-many : (p : Plan) → length (edges p) ≡ length (first_phase p) + le
 unfolding edges
 edges-many p = length-append (first_phase p) (second_phase p)
 
+-- the pair of an edge of each phase
 pub first-pair : (p : Plan) (e : ℕ) → e < length (first_phase p) → IsPair p.tile_rows (nexts p.shape.around p.tile_cols) e
 first-pair p e less = let many = first-many p in pair-of p.tile_rows (nexts p.shape.around p.tile_cols) e (omega arith)
 
@@ -161,6 +164,7 @@ pub record FirstThere (p : Plan) (a b : ℕ) : Type 0 where
   pub right : slice_get (edges p) at ≡ Some (rightward p a b (next p.tile_cols b))
   pub left : slice_get (edges p) (at + 1) ≡ Some (leftward p a b (next p.tile_cols b))
 
+-- and they are there
 pub first-there : (p : Plan) (a b : ℕ) → a < p.tile_rows → b < nexts p.shape.around p.tile_cols → FirstThere p a b
 first-there p a b l m =
     let n = nexts p.shape.around p.tile_cols in
@@ -183,6 +187,7 @@ pub record SecondThere (p : Plan) (a b : ℕ) : Type 0 where
   pub down : slice_get (edges p) at ≡ Some (downward p a b (next p.tile_rows a))
   pub up : slice_get (edges p) (at + 1) ≡ Some (upward p a b (next p.tile_rows a))
 
+-- and they are there
 pub second-there : (p : Plan) (a b : ℕ) → a < nexts p.shape.around p.tile_rows → b < p.tile_cols → SecondThere p a b
 second-there p a b l m =
     let n = nexts p.shape.around p.tile_rows in
@@ -213,12 +218,15 @@ pub record IsSecond (p : Plan) (x : TileEdge) : Type 0 where
   pub place : b < p.tile_cols
   pub is : (x ≡ downward p a b (next p.tile_rows a)) ⊎ (x ≡ upward p a b (next p.tile_rows a))
 
+-- equal places have equal edges
 pub same-edge : (x y : TileEdge) → ◌≡◌ {A = Option TileEdge} (Some x) (Some y) → x ≡ y
 same-edge x y e = cc
 
+-- a number is even or odd
 even-odd : (e : ℕ) → (e % 2 ≡ 0) ⊎ (e % 2 ≡ 1)
 even-odd e = elim (cases_lt 0 (e % 2)) [ inl more ↦ inr (omega arith) | inr none ↦ inl (omega arith) ]
 
+-- each is
 pub first-is : (p : Plan) (e : ℕ) (x : TileEdge) → e < length (first_phase p) → slice_get (edges p) e ≡ Some x → IsFirst p x
 first-is p e x less at =
     let n = nexts p.shape.around p.tile_cols in
@@ -234,6 +242,7 @@ first-is p e x less at =
       ];
     }
 
+-- and so in the second phase
 pub second-is : (p : Plan) (e : ℕ) (x : TileEdge) → length (first_phase p) ≤ e → e < length (edges p) → slice_get (edges p) e ≡ Some x → IsSecond p x
 second-is p e x above less at =
     let n = p.tile_cols in

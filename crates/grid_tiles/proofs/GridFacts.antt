@@ -148,6 +148,7 @@ all-whole p g blocks v s holds rows cols long =
     all ∙ (λ i. between g.values (from i * g.cols) (to i * g.cols)) ∙ (λ i. between g.values (none i) (g.rows * g.cols))
     ∙ take_all (g.rows * g.cols - 0) g.values (omega arith)
 
+-- where the blocks have a grid's cells, what is gathered is that grid
 pub gathered-is : (p : Plan) (g : Plane) (blocks : List Part) → IsPlan p → AreSized p blocks → HoldGrid p g blocks → g.rows ≡ p.rows → g.cols ≡ p.cols → length g.values ≡ g.rows * g.cols → gathered p blocks ≡ g
 unfolding gathered
 gathered-is p g blocks v s holds rows cols long =
@@ -163,15 +164,18 @@ all-range f a (suc n) each =
     subst (All IsValue) (sym (flat_map-cons f a (range_with_len (a + 1) n)))
     (All-append IsValue (f a) (flat_map f (range_with_len (a + 1) n)) (each a (omega arith) (omega arith)) (all-range f (a + 1) n (λ k low high. each k (omega arith) (omega arith))))
 
+-- the own cells of a block are in range
 all-own : (b : Part) (row : ℕ) → IsPart b → All IsValue (own_cells b row)
 all-own b row s = let start = (b.reach + row) * width b + b.reach in All-take IsValue b.cols (drop start b.values) (All-drop IsValue start b.values s.values)
 
+-- and so are those of all blocks
 all-gathered : (p : Plan) (blocks : List Part) → AreSized p blocks → All IsValue (flat_map (whole_rows p blocks) (range_with_len 0 p.tile_rows))
 all-gathered p blocks s =
     all-range (whole_rows p blocks) 0 p.tile_rows (λ a _ la. all-range (whole_row p blocks a) 0 (rows_of p a) (λ r _ lr.
     all-range (λ b. own_cells (block_at blocks (number p a b)) r) 0 p.tile_cols (λ b _ lb.
     all-own (block_at blocks (number p a b)) r (s.each (number p a b) (number-inside p a b (omega arith) (omega arith))).limits)))
 
+-- what is gathered keeps the limits of a grid
 pub gathered-plane : (p : Plan) (g : Plane) (blocks : List Part) → IsPlan p → AreSized p blocks → gathered p blocks ≡ g → length g.values ≡ p.rows * p.cols → IsPlane (gathered p blocks)
 unfolding gathered
 gathered-plane p g blocks v s same long = record {
@@ -188,6 +192,7 @@ pub gathered-from : (p : Plan) (blocks : List Part) (rows cols : ℕ) (values : 
 unfolding gathered
 gathered-from p blocks rows cols values many wide' is = λ i. plane_of (many i) (wide' i) (is i)
 
+-- its values
 pub gathered-values : (p : Plan) (blocks : List Part) → (gathered p blocks).values ≡ flat_map (whole_rows p blocks) (range_with_len 0 p.tile_rows)
 unfolding gathered
 gathered-values p blocks = refl
@@ -200,6 +205,7 @@ stepped p g rule n blocks v s plane suit holds =
     gathered-is p (fold_plane g rule n) blocks v s holds later.rows later.cols
     (fold-length g rule n plane ∙ (λ i. (suit.rows ∙ sym later.rows) i * (suit.cols ∙ sym later.cols) i))
 
+-- which keeps the limits of a grid
 pub stepped-plane : (p : Plan) (g : Plane) (rule : Rule) (n : ℕ) (blocks : List Part) → IsPlan p → AreSized p blocks → IsPlane g → Suit p g rule → HoldGrid p (fold_plane g rule n) blocks
     → IsPlane (gathered p blocks)
 stepped-plane p g rule n blocks v s plane suit holds =
@@ -213,6 +219,7 @@ row-cells g r start end col less fits =
     get_or-take (end - start) (drop start (row_of g r)) col (pos 0) (omega arith) ∙ get_or-drop start (row_of g r) col (pos 0)
     ∙ get_or-take g.cols (drop (r * g.cols) g.values) (start + col) (pos 0) (omega arith) ∙ get_or-drop (r * g.cols) g.values (start + col) (pos 0)
 
+-- a row has as many values as the grid has columns
 pub length-row : (g : Plane) (r : ℕ) → length g.values ≡ g.rows * g.cols → r < g.rows → length (row_of g r) ≡ g.cols
 length-row g r long less =
     let m = mul-le (r + 1) g.cols g.rows g.cols (omega arith) (omega arith) in

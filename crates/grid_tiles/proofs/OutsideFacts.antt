@@ -30,6 +30,7 @@ found around size n first at x reach h many from far = λ i. place around (many 
 
 -- ---- one column
 
+-- a column that was set has the reading
 pub column-held : (p : Plan) (g : Plane) (rule : Rule) (t x n : ℕ) (source : Option ℕ) (old new : Part) → IsSized p t old → Suit p g rule → OwnHeld p g rule t old
     → IsColumnSet rule source x n old new → n ≡ old.rows → source ≡ place rule.around g.cols (right p t x)
     → ((c : ℕ) → source ≡ Some c → (c < wide p t) × (left p t ≡ 0)) → wide p t ≤ p.cols → (row : ℕ) → row < tall p t
@@ -52,6 +53,7 @@ column-held p g rule t x n source old new s suit own set many is inside few row 
         ∙ own row c less low
         ∙ read-same g rule (down p t (p.shape.reach + row)) (down p t (p.shape.reach + row)) (right p t (p.shape.reach + c)) (right p t x) refl there
 
+-- and what had it before keeps it
 pub column-keeps : (p : Plan) (g : Plane) (rule : Rule) (t x n : ℕ) (source : Option ℕ) (old new : Part) → IsSized p t old → IsColumnSet rule source x n old new → n ≡ old.rows
     → ((row : ℕ) → row < tall p t → HasRead p g rule t new (p.shape.reach + row) x) → Holding p g rule t old new
 column-keeps p g rule t x n source old new s set many held y i less was =
@@ -70,6 +72,7 @@ column-keeps p g rule t x n source old new s set many held y i less was =
 pub own-kept : (p : Plan) (g : Plane) (rule : Rule) (t : ℕ) (old new : Part) → OwnHeld p g rule t old → Holding p g rule t old new → OwnHeld p g rule t new
 own-kept p g rule t old new own keep row col less lt = keep (p.shape.reach + row) (p.shape.reach + col) (omega arith) (own row col less lt)
 
+-- before the first column
 pub columns-none : (p : Plan) (rule : Rule) (t from : ℕ) (b : Part) → IsSized p t b → ColumnsSet p rule t from 0 b b
 columns-none p rule t from b s = record {
   size = s;
@@ -77,6 +80,7 @@ columns-none p rule t from b s = record {
   set = λ g suit own row k less low. absurd (omega arith);
 }
 
+-- one more column
 pub columns-next : (p : Plan) (rule : Rule) (t from k x n : ℕ) (source : Option ℕ) (old b new : Part) → ColumnsSet p rule t from k old b → OwnColumns p rule t from → k < p.shape.reach
     → from ≤ p.shape.reach + wide p t → x ≡ from + k → IsColumnSet rule source x n b new → n ≡ b.rows → source ≡ place rule.around p.cols (right p t (from + k)) → wide p t ≤ p.cols
     → ColumnsSet p rule t from (k + 1) old new
@@ -95,6 +99,7 @@ columns-next p rule t from k x n source old b new s own low room here set many i
 
 -- ---- one row
 
+-- a row that was set has the reading
 pub row-held : (p : Plan) (g : Plane) (rule : Rule) (t y : ℕ) (source : Option ℕ) (old new : Part) → IsSized p t old → Suit p g rule → SidesHeld p g rule t old
     → IsRowSet rule source y old new → source ≡ place rule.around g.rows (down p t y)
     → ((r : ℕ) → source ≡ Some r → (r < tall p t) × (top p t ≡ 0)) → tall p t ≤ p.rows → (x : ℕ) → x < wide p t + 2 * p.shape.reach
@@ -115,6 +120,7 @@ row-held p g rule t y source old new s suit sides set is inside few x less = by-
         ∙ sides r x low less
         ∙ read-same g rule (down p t (p.shape.reach + r)) (down p t y) (right p t x) (right p t x) there refl
 
+-- and what had it before keeps it
 pub row-keeps : (p : Plan) (g : Plane) (rule : Rule) (t y : ℕ) (source : Option ℕ) (old new : Part) → IsSized p t old → IsRowSet rule source y old new
     → ((x : ℕ) → x < wide p t + 2 * p.shape.reach → HasRead p g rule t new y x) → Holding p g rule t old new
 row-keeps p g rule t y source old new s set held r i less was =
@@ -124,9 +130,11 @@ row-keeps p g rule t y source old new s set held r i less was =
       | inr apart ↦ set.rest r i (omega arith) apart ∙ was
     ]
 
+-- what holds of own rows stays
 pub sides-kept : (p : Plan) (g : Plane) (rule : Rule) (t : ℕ) (old new : Part) → SidesHeld p g rule t old → Holding p g rule t old new → SidesHeld p g rule t new
 sides-kept p g rule t old new sides keep row x less lt = keep (p.shape.reach + row) x lt (sides row x less lt)
 
+-- before the first row
 pub rows-none : (p : Plan) (rule : Rule) (t from : ℕ) (b : Part) → IsSized p t b → RowsSet p rule t from 0 b b
 rows-none p rule t from b s = record {
   size = s;
@@ -134,6 +142,7 @@ rows-none p rule t from b s = record {
   set = λ g suit sides k x low less. absurd (omega arith);
 }
 
+-- one more row
 pub rows-next : (p : Plan) (rule : Rule) (t from k y : ℕ) (source : Option ℕ) (old b new : Part) → RowsSet p rule t from k old b → OwnRows p rule t from → k < p.shape.reach
     → y ≡ from + k → IsRowSet rule source y b new → source ≡ place rule.around p.rows (down p t (from + k)) → tall p t ≤ p.rows
     → RowsSet p rule t from (k + 1) old new
@@ -161,6 +170,7 @@ open-left p rule t v less around open' k c low at =
     open-before p.shape.around p.cols p.tile_cols p.shape.reach (t % p.tile_cols) k c (omega arith) (tile-at p t v less).1 first few low
     (ap (λ a. place a p.cols (right p t (0 + k))) (sym around) ∙ at)
 
+-- and so behind them
 pub open-right : (p : Plan) (rule : Rule) (t from : ℕ) → IsPlan p → t < tiles p → rule.around ≡ p.shape.around → from ≡ p.shape.reach + wide p t → opens_right p t ≡ true → OwnColumns p rule t from
 open-right p rule t from v less around is open' k c low at =
     let few = leb-true (nexts p.shape.around p.tile_cols) (t % p.tile_cols) open' in
@@ -168,6 +178,7 @@ open-right p rule t from v less around is open' k c low at =
     open-behind p.shape.around p.cols p.tile_cols p.shape.reach (t % p.tile_cols) k c (omega arith) (tile-at p t v less).1 few
     (ap (λ a. place a p.cols (right p t (p.shape.reach + wide p t + k))) (sym around) ∙ ap (λ n. place rule.around p.cols (right p t (n + k))) (sym is) ∙ at)
 
+-- and so above its rows
 pub open-up : (p : Plan) (rule : Rule) (t : ℕ) → IsPlan p → t < tiles p → rule.around ≡ p.shape.around → opens_up p t ≡ true → OwnRows p rule t 0
 open-up p rule t v less around open' k c low at =
     let parts = and_parts (t / p.tile_cols == 0) (nat_lt (nexts p.shape.around p.tile_rows) p.tile_rows) open' in
@@ -176,6 +187,7 @@ open-up p rule t v less around open' k c low at =
     open-before p.shape.around p.rows p.tile_rows p.shape.reach (t / p.tile_cols) k c (omega arith) (tile-at p t v less).0 first few low
     (ap (λ a. place a p.rows (down p t (0 + k))) (sym around) ∙ at)
 
+-- and below them
 pub open-down : (p : Plan) (rule : Rule) (t from : ℕ) → IsPlan p → t < tiles p → rule.around ≡ p.shape.around → from ≡ p.shape.reach + tall p t → opens_down p t ≡ true → OwnRows p rule t from
 open-down p rule t from v less around is open' k c low at =
     let few = leb-true (nexts p.shape.around p.tile_rows) (t / p.tile_cols) open' in
@@ -185,9 +197,11 @@ open-down p rule t from v less around is open' k c low at =
 
 -- ---- a tile's columns and rows together
 
+-- where they are open they were set
 pub columns-if : (p : Plan) (rule : Rule) (t from : ℕ) (is_open : Bool) (old new : Part) → ColumnsSet p rule t from p.shape.reach old new → OpenColumnsSet p rule t is_open from old new
 columns-if p rule t from is_open old new s = record { size = s.size; keeps = s.keeps; set = λ e. s.set }
 
+-- and else nothing was
 pub columns-not : (p : Plan) (rule : Rule) (t from : ℕ) (is_open : Bool) (b : Part) → is_open ≡ false → IsSized p t b → OpenColumnsSet p rule t is_open from b b
 columns-not p rule t from is_open b shut s = record {
   size = s;
@@ -195,6 +209,7 @@ columns-not p rule t from is_open b shut s = record {
   set = λ e. absurd (false≢true (sym shut ∙ e));
 }
 
+-- both sides
 pub sides-set : (p : Plan) (rule : Rule) (t from : ℕ) (left' right' : Bool) (old b new : Part) → OpenColumnsSet p rule t left' 0 old b → OpenColumnsSet p rule t right' from b new
     → left' ≡ opens_left p t → right' ≡ opens_right p t → from ≡ p.shape.reach + wide p t → AreSidesSet p rule t old new
 sides-set p rule t from left' right' old b new one two is is' there =
@@ -206,9 +221,11 @@ sides-set p rule t from left' right' old b new one two is is' there =
       behind = λ e g suit all row k less low. subst (λ n. HasRead p g rule t new (p.shape.reach + row) (n + k)) there (two.set (is' ∙ e) g suit (own g suit all) row k less low);
     }
 
+-- the same with rows
 pub rows-if : (p : Plan) (rule : Rule) (t from : ℕ) (is_open : Bool) (old new : Part) → RowsSet p rule t from p.shape.reach old new → OpenRowsSet p rule t is_open from old new
 rows-if p rule t from is_open old new s = record { size = s.size; keeps = s.keeps; set = λ e. s.set }
 
+-- and else nothing was
 pub rows-not : (p : Plan) (rule : Rule) (t from : ℕ) (is_open : Bool) (b : Part) → is_open ≡ false → IsSized p t b → OpenRowsSet p rule t is_open from b b
 rows-not p rule t from is_open b shut s = record {
   size = s;
@@ -216,6 +233,7 @@ rows-not p rule t from is_open b shut s = record {
   set = λ e. absurd (false≢true (sym shut ∙ e));
 }
 
+-- above and below
 pub ends-set : (p : Plan) (rule : Rule) (t from : ℕ) (up' down' : Bool) (old b new : Part) → OpenRowsSet p rule t up' 0 old b → OpenRowsSet p rule t down' from b new
     → up' ≡ opens_up p t → down' ≡ opens_down p t → from ≡ p.shape.reach + tall p t → AreEndsSet p rule t old new
 ends-set p rule t from up' down' old b new one two is is' there =

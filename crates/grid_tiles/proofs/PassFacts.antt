@@ -43,6 +43,7 @@ any-default xs i d e less = some-same (get_or xs i d) (get_or xs i e) (sym (slic
 pub block-found : (p : Plan) (blocks : List Part) (t : ℕ) (d : Part) → AreSized p blocks → t < tiles p → get_or blocks t d ≡ block_at blocks t
 block-found p blocks t d s less = let count = s.count in any-default blocks t d (part_of 0 0 0 []) (omega arith)
 
+-- a block that was put, and any other
 pub at-set : (blocks : List Part) (t : ℕ) (b : Part) → t < length blocks → block_at (set blocks t b) t ≡ b
 at-set blocks t b less = get_or-set_same blocks t b (part_of 0 0 0 []) less
 
@@ -109,6 +110,7 @@ cells-keep p g rule x values old b y' z' s row' col' put brought r i less was =
     (λ m. rest (λ q c d e. omega arith))))
     (λ m. rest (λ q c d e. omega arith)))
 
+-- also in the list of blocks
 pub brought-set : (p : Plan) (g : Plane) (rule : Rule) (x : TileEdge) (blocks : List Part) (b : Part) → x.to < length blocks
     → ((k j : ℕ) → k < x.rows → j < x.cols → HasRead p g rule x.to b (land_row p x + k) (land_col p x + j)) → IsBrought p g rule (set blocks x.to b) x
 brought-set p g rule x blocks b room brought k j low less = subst (λ q. HasRead p g rule x.to q (land_row p x + k) (land_col p x + j)) (sym (at-set blocks x.to b room)) (brought k j low less)
@@ -123,11 +125,13 @@ put-sized p t y x rows cols values old new s put = sized-same p t old new s put.
 pub keeps-more : (p : Plan) (g : Plane) (rule : Rule) (a b c : List Part) → Keeps p g rule a b → Keeps p g rule b c → Keeps p g rule a c
 keeps-more p g rule a b c one two t y x less lt was = two t y x less lt (one t y x less lt was)
 
+-- what is ready stays so
 pub ready-kept : (p : Plan) (g : Plane) (rule : Rule) (x : TileEdge) (old new : List Part) → Brings p x → Keeps p g rule old new → IsReady p g rule old x → IsReady p g rule new x
 ready-kept p g rule x old new brings keep ready k j low less =
     let fits = brings.leave_cols in
     keep x.from (leave_row p x + k) (leave_col p x + j) brings.from (omega arith) (ready k j low less)
 
+-- and so does what was brought
 pub brought-kept : (p : Plan) (g : Plane) (rule : Rule) (x : TileEdge) (old new : List Part) → Brings p x → Keeps p g rule old new → IsBrought p g rule old x → IsBrought p g rule new x
 brought-kept p g rule x old new brings keep brought k j low less =
     let fits = brings.land_cols in
@@ -178,6 +182,7 @@ rest-next old blocks n b rest t above = at-other blocks t n b (λ e. omega arith
 
 -- ---- as the code finds the places
 
+-- where the cells leave, and where they land
 pub leave-row : (p : Plan) (x : TileEdge) (y rows reach : ℕ) → y ≡ (if x.tag == DOWN then rows else reach) → rows ≡ tall p x.from → reach ≡ p.shape.reach → y ≡ leave_row p x
 leave-row p x y rows reach is many far = is ∙ (λ i. if x.tag == DOWN then many i else far i)
 

@@ -40,6 +40,7 @@ cut-some n parts i reach side count near fit =
     let h = cut-has n parts i 1 count.0 one in
     omega arith
 
+-- each tile has a row and a column
 pub rows-some : (p : Plan) (a : ℕ) → IsPlan p → first_row p a < first_row p (a + 1)
 rows-some p a v = cut-some p.rows p.tile_rows a p.shape.reach v.rows v.tile_rows v.shape.reach v.rows_fit
 
@@ -63,6 +64,7 @@ tile-at p t v less =
     let some = v.tile_cols.0 in
     (div_below t p.tile_cols p.tile_rows some less, mod_below t p.tile_cols some)
 
+-- the number of a tile
 pub number-inside : (p : Plan) (a b : ℕ) → a < p.tile_rows → b < p.tile_cols → number p a b < tiles p
 number-inside p a b l m = let h = mul-add-lt a p.tile_cols b p.tile_rows l m in omega arith
 
@@ -81,6 +83,7 @@ pub side-found : (p : Plan) (a low high reach : ℕ) → IsPlan p → a < p.tile
 side-found p a low high reach v less from to near =
     subst (IsWithin 1 MAX_VALUES) (λ i. (sym to i - sym from i) * sym near i) (side-values p a v less)
 
+-- as the code finds a number
 pub number-found : (p : Plan) (cols a b : ℕ) → cols ≡ p.tile_cols → a < p.tile_rows → b < p.tile_cols → a * cols + b < tiles p
 number-found p cols a b same l m = subst (λ n. a * n + b < tiles p) (sym same) (number-inside p a b l m)
 
@@ -106,5 +109,6 @@ row-values p b v less =
     let most = mul-le p.shape.reach (cols_of p b + 2 * p.shape.reach) 2 4100 near.1 (omega arith) in
     (omega arith, omega arith)
 
+-- as the code finds it
 pub rows-found : (p : Plan) (b reach count : ℕ) → IsPlan p → b < p.tile_cols → reach ≡ p.shape.reach → count ≡ cols_of p b + 2 * p.shape.reach → IsWithin 1 MAX_VALUES (reach * count)
 rows-found p b reach count v less near many = subst (IsWithin 1 MAX_VALUES) (λ i. sym near i * sym many i) (row-values p b v less)

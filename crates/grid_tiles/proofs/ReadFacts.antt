@@ -25,10 +25,12 @@ pub record IsNext (around : Around) (n i : ℕ) : Type 0 where
   pub has : before < nexts around n
   pub is : next n before ≡ i
 
+-- a place before the last has a next one
 more-next : (around : Around) (n i : ℕ) → 0 < i → i < n → i - 1 < nexts around n
 more-next Fixed n i some less = omega arith
 more-next Wrap n i some less = let all = wrap-two n (omega arith) in omega arith
 
+-- where a tile does not open, it is the next one of some tile
 pub next-of : (around : Around) (n i : ℕ) → i < n → ((i == 0) && nat_lt (nexts around n) n) ≡ false → IsNext around n i
 next-of around n i less shut = elim (cases_eq i 0) [
   | inl first ↦
@@ -47,6 +49,7 @@ next-of around n i less shut = elim (cases_eq i 0) [
 number-of : (p : Plan) (t : ℕ) → number p (t / p.tile_cols) (t % p.tile_cols) ≡ t
 number-of p t = div-add-mod' t p.tile_cols
 
+-- where it does not open behind, it has a next one
 few-from : (m n : ℕ) → nat_le m n ≡ false → n < m
 few-from m n shut = below-or n m (λ l. l) (λ h. let t : nat_le m n ≡ true = grind (arith, nat_tests) in absurd (false≢true (sym shut ∙ t)))
 
@@ -75,6 +78,7 @@ came-behind p g rule blocks end t row k v brought all less shut low near =
     let came = brought (edge.at + 1) (leftward p a b (next p.tile_cols b)) (omega arith) (omega arith) edge.left row k low near in
     subst (λ u. Reads p g rule blocks u (p.shape.reach + row) (p.shape.reach + wide p u + k)) (number-of p t) came
 
+-- so own rows have the reading, with the halo's columns
 pub sides-read : (p : Plan) (g : Plane) (rule : Rule) (old new : List Part) → IsPlan p → Suit p g rule → OwnRead p g rule old → AreBrought p g rule old 0 (length (first_phase p))
     → ((t : ℕ) → t < tiles p → AreSidesSet p rule t (block_at old t) (block_at new t)) → SidesRead p g rule new
 sides-read p g rule old new v suit own brought set t row x less low lt =
@@ -104,6 +108,7 @@ sides-read p g rule old new v suit own brought set t row x less low lt =
 
 -- ---- the rows above and below
 
+-- the rows above, and those below
 pub came-above : (p : Plan) (g : Plane) (rule : Rule) (blocks : List Part) (t k x : ℕ) → IsPlan p → AreBrought p g rule blocks (length (first_phase p)) (length (edges p)) → t < tiles p → opens_up p t ≡ false
     → k < p.shape.reach → x < wide p t + 2 * p.shape.reach → Reads p g rule blocks t (0 + k) (0 + x)
 came-above p g rule blocks t k x v brought less shut near lt =
@@ -125,6 +130,7 @@ came-below p g rule blocks t k x v brought less shut near lt =
     let came = brought (edge.at + 1) (upward p a b (next p.tile_rows a)) (omega arith) (omega arith) edge.up k x near (omega arith) in
     subst (λ u. Reads p g rule blocks u (p.shape.reach + tall p u + k) (0 + x)) (number-of p t) came
 
+-- so all places have it
 pub all-read : (p : Plan) (g : Plane) (rule : Rule) (old new : List Part) → IsPlan p → Suit p g rule → SidesRead p g rule old → AreBrought p g rule old (length (first_phase p)) (length (edges p))
     → ((t : ℕ) → t < tiles p → AreEndsSet p rule t (block_at old t) (block_at new t)) → AllRead p g rule new
 all-read p g rule old new v suit sides brought set t y x less low lt =

@@ -20,6 +20,7 @@ use Rattle.grid_tiles.proofs.Planning.{cut-inside}
 
 -- ---- the reading of a grid
 
+-- a place inside is itself
 pub place-own : (around : Around) (n k : ℕ) → k < n → place around n (pos k) ≡ Some k
 place-own Fixed n k less = let t : nat_lt k n ≡ true = lt-ltb k n less in rw t refl
 place-own Wrap n k less = ap (λ (m : ℕ). Some m) (mod-eq_of_lt less)
@@ -52,12 +53,14 @@ read-no-col g rule a c none = ap (λ o. cell_or g rule.edge (place rule.around g
 
 -- ---- neighbours
 
+-- the first part begins at 0, and behind the last is the end
 pub cut-zero : (n parts : ℕ) → 0 < parts → cut_at n parts 0 ≡ 0
 cut-zero n parts some = let less = div_below (0 * n) parts 1 some (omega arith) in omega arith
 
 pub cut-last : (n parts : ℕ) → 0 < parts → cut_at n parts parts ≡ n
 cut-last n parts some = let e : parts * n ≡ n * parts + 0 = omega arith in ap (λ m. m / parts) e ∙ div-mul-add n parts 0 some
 
+-- the next one, before the last and at the last
 pub next-more : (n i : ℕ) → (i + 1 ≡ n → ⊥) → next n i ≡ i + 1
 next-more n i apart = let t : (i + 1 == n) ≡ false = grind (arith, nat_tests) in rw t refl
 
@@ -111,12 +114,14 @@ seam around n parts h i m some inside has few = elim (cases_eq (i + 1) parts) [
 
 -- ---- parts that have no neighbour
 
+-- nothing stands there and something does not both hold
 clash : {P : Type 0} (o : Option ℕ) (r : ℕ) → o ≡ None → o ≡ Some r → P
 clash o r none some = absurd (apart r (sym none ∙ some))
   where
     apart : (r : ℕ) → ◌≡◌ {A = Option ℕ} None (Some r) → ⊥
     apart r e = cc
 
+-- outside, where the grid does not go round, nothing stands
 fixed-before : (n h k : ℕ) → k < h → place Fixed n (pos k -ℤ pos h) ≡ None
 fixed-before n h k less = let e : (pos k -ℤ pos h) ≡ negsuc (h - k - 1) = omega (arith, ints) in ap (place Fixed n) e
 

@@ -46,6 +46,7 @@ own-read p g rule blocks v s suit holds t row col less low lt =
 pub sides-stay : (p : Plan) (g : Plane) (rule : Rule) (old new : List Part) → SidesRead p g rule old → Keeps p g rule old new → SidesRead p g rule new
 sides-stay p g rule old new sides keep t row x less low lt = keep t (p.shape.reach + row) x less lt (sides t row x less low lt)
 
+-- and so does that of own cells
 pub own-stay : (p : Plan) (g : Plane) (rule : Rule) (old new : List Part) → OwnRead p g rule old → Keeps p g rule old new → OwnRead p g rule new
 own-stay p g rule old new own keep t row col less low lt = keep t (p.shape.reach + row) (p.shape.reach + col) less (omega arith) (own t row col less low lt)
 

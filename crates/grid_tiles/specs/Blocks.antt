@@ -1,5 +1,6 @@
 -- The blocks and the messages of all tiles while a step is made: for private functions.
-use Rattle.std.specs.Prelude.{◌≡◌, ℕ, ◌+◌, ◌*◌, ◌/◌, ◌%◌, ◌<◌, ◌≤◌, ◌==◌, ◌&&◌, if◌then◌else◌, Bool, true, nat_le, nat_lt, ℤ, pos, ◌-ℤ◌, List, Option, Some, None}
+use Rattle.std.specs.Prelude.{◌≡◌, ℕ, ◌+◌, ◌*◌, ◌/◌, ◌%◌, ◌<◌, ◌≤◌, ◌==◌, ◌&&◌, if◌then◌else◌, Bool, true}
+use Rattle.std.specs.Prelude.{nat_le, nat_lt, ℤ, pos, ◌-ℤ◌, List, Option, Some, None}
 use Rattle.std.specs.Prelude.{length, slice_get, slice_index_or}
 use Rattle.std.specs.List.{All}
 use Rattle.stencil_def.specs.Limits.{IsValue}
@@ -192,10 +193,10 @@ pub record OpenColumnsSet (p : Plan) (rule : Rule) (t : ℕ) (is_open : Bool) (f
 pub record AreSidesSet (p : Plan) (rule : Rule) (t : ℕ) (old new : Part) : Type 0 where
   pub size : IsSized p t new
   pub keeps : (g : Plane) → Suit p g rule → OwnHeld p g rule t old → Holding p g rule t old new
-  pub before : opens_left p t ≡ true → (g : Plane) → Suit p g rule → OwnHeld p g rule t old → (row k : ℕ) → row < tall p t
-      → k < p.shape.reach → HasRead p g rule t new (p.shape.reach + row) (0 + k)
-  pub behind : opens_right p t ≡ true → (g : Plane) → Suit p g rule → OwnHeld p g rule t old → (row k : ℕ) → row < tall p t
-      → k < p.shape.reach → HasRead p g rule t new (p.shape.reach + row) (p.shape.reach + wide p t + k)
+  pub before : opens_left p t ≡ true → (g : Plane) → Suit p g rule → OwnHeld p g rule t old → (row k : ℕ)
+      → row < tall p t → k < p.shape.reach → HasRead p g rule t new (p.shape.reach + row) (0 + k)
+  pub behind : opens_right p t ≡ true → (g : Plane) → Suit p g rule → OwnHeld p g rule t old → (row k : ℕ)
+      → row < tall p t → k < p.shape.reach → HasRead p g rule t new (p.shape.reach + row) (p.shape.reach + wide p t + k)
 
 -- the first n rows from row `from` on were given what lies there
 pub record RowsSet (p : Plan) (rule : Rule) (t from n : ℕ) (old new : Part) : Type 0 where
@@ -215,8 +216,8 @@ pub record OpenRowsSet (p : Plan) (rule : Rule) (t : ℕ) (is_open : Bool) (from
 pub record AreEndsSet (p : Plan) (rule : Rule) (t : ℕ) (old new : Part) : Type 0 where
   pub size : IsSized p t new
   pub keeps : (g : Plane) → Suit p g rule → SidesHeld p g rule t old → Holding p g rule t old new
-  pub above : opens_up p t ≡ true → (g : Plane) → Suit p g rule → SidesHeld p g rule t old → (k x : ℕ) → k < p.shape.reach
-      → x < wide p t + 2 * p.shape.reach → HasRead p g rule t new (0 + k) x
+  pub above : opens_up p t ≡ true → (g : Plane) → Suit p g rule → SidesHeld p g rule t old → (k x : ℕ)
+      → k < p.shape.reach → x < wide p t + 2 * p.shape.reach → HasRead p g rule t new (0 + k) x
   pub below : opens_down p t ≡ true → (g : Plane) → Suit p g rule → SidesHeld p g rule t old → (k x : ℕ)
       → k < p.shape.reach → x < wide p t + 2 * p.shape.reach → HasRead p g rule t new (p.shape.reach + tall p t + k) x
 

@@ -1,5 +1,6 @@
 -- The edges of a plan: which rectangle of the grid goes from which tile to which.
-use Rattle.std.specs.Prelude.{◌≡◌, ℕ, ◌+◌, ◌-◌, ◌*◌, ◌<◌, ◌==◌, nat_le, if◌then◌else◌, pos, ◌-ℤ◌, Some, List, [], ◌∷◌, ◌++◌, slice_get}
+use Rattle.std.specs.Prelude.{◌≡◌, ℕ, ◌+◌, ◌-◌, ◌*◌, ◌<◌, ◌==◌, nat_le, if◌then◌else◌, pos, ◌-ℤ◌}
+use Rattle.std.specs.Prelude.{Some, List, [], ◌∷◌, ◌++◌, slice_get}
 use Rattle.std.specs.List.{flat_map, range_with_len}
 use Rattle.part_geometry.specs.Shape.{IsWithin, Shape}
 use Rattle.stencil_def.specs.declared.rule.Around.{Around}

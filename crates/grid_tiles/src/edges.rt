@@ -142,8 +142,8 @@ impl TilePlan {
         2 * (self.tile_rows * nexts(self.shape.around, self.tile_cols))
     }
 
-    /// How many edges there are, in both phases: two for each tile that has a right neighbour, and two for each that has
-    /// a lower one.
+    /// How many edges there are, in both phases: two for each tile that has a right neighbour, and two for each that
+    /// has a lower one.
     pub fn edge_count(&self) -> u32
         ensures value { result ≡ length (edges self.now) }
         ensures limits { result ≤ 4 * MAX_RANKS }
@@ -184,8 +184,8 @@ impl TilePlan {
         }
     }
 
-    /// Edge `e`. First, for each tile in order that has a right neighbour, its last columns go right and the neighbour's
-    /// first ones come back; then, for each tile in order that has a lower neighbour, its last rows go down and the
+    /// Edge `e`. First, for each tile in order that has a right neighbour, its last columns go right and the
+    /// neighbour's first ones come back; then, for each tile in order that has a lower neighbour, its last rows go down and the
     /// neighbour's first ones come back. All edges are in communicator 0.
     pub fn edge(&self, e: u32) -> TileEdge
         requires { e < length (edges self.now) }

@@ -1,5 +1,5 @@
-//! A grid cut into tiles, in rows and in columns, which of its cells pass between tiles as partitioned messages, and all
-//! tiles in one thread.
+//! A grid cut into tiles, in rows and in columns, which of its cells pass between tiles as partitioned messages, and
+//! all tiles in one thread.
 #![tactic(auto)]
 
 mod edges;

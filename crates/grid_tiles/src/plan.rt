@@ -24,8 +24,8 @@ pub enum TileFault {
     },
 }
 
-/// How the rows and columns of a grid go to tiles, and which messages pass between tiles in each step. Contracts see the
-/// numbers that it was made of.
+/// How the rows and columns of a grid go to tiles, and which messages pass between tiles in each step. Contracts see
+/// the numbers that it was made of.
 #[derive(Drop)]
 pub struct TilePlan {
     pub(crate) rows: u32,
@@ -68,8 +68,8 @@ pub(crate) fn cut_at(size: u32, parts: u32, i: u32) -> u32
 }
 
 impl TilePlan {
-    /// The plan of a grid of this size over `tile_rows` times `tile_cols` tiles, 1 to 64 together, with messages of this
-    /// shape. Refused with `TooManyTiles` exactly where there are two rows of tiles or more and their number times the
+    /// The plan of a grid of this size over `tile_rows` times `tile_cols` tiles, 1 to 64 together, with messages of
+    /// this shape. Refused with `TooManyTiles` exactly where there are two rows of tiles or more and their number times the
     /// reach is above the rows, or two columns of tiles or more and their number times the reach is above the columns;
     /// nothing else is refused. It takes no memory.
     pub fn new(

@@ -51,7 +51,8 @@ fn leaving(tag: u32, rows: u32, cols: u32, reach: u32) -> (u32, u32)
     }
 }
 
-/// The row and the column of its receiver's block from which on they are put, where the receiver has so many of its own.
+/// The row and the column of its receiver's block from which on they are put, where the receiver has so many of its
+/// own.
 fn landing(tag: u32, rows: u32, cols: u32, reach: u32) -> (u32, u32)
     requires rows { rows ≤ 4096 }
     requires cols { cols ≤ 4096 }

@@ -32,8 +32,8 @@ pub struct Tile {
     pub cols: u32,
 }
 
-/// A message that passes from one tile to another in each step: the cells of a rectangle that the receiver lacks, row by
-/// row. Its columns may lie outside the grid.
+/// A message that passes from one tile to another in each step: the cells of a rectangle that the receiver lacks, row
+/// by row. Its columns may lie outside the grid.
 #[derive(Clone, Copy)]
 pub struct TileEdge {
     /// The tile that sends.
