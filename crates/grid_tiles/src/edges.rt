@@ -185,8 +185,8 @@ impl TilePlan {
     }
 
     /// Edge `e`. First, for each tile in order that has a right neighbour, its last columns go right and the
-    /// neighbour's first ones come back; then, for each tile in order that has a lower neighbour, its last rows go down and the
-    /// neighbour's first ones come back. All edges are in communicator 0.
+    /// neighbour's first ones come back; then, for each tile in order that has a lower neighbour, its last rows go down
+    /// and the neighbour's first ones come back. All edges are in communicator 0.
     pub fn edge(&self, e: u32) -> TileEdge
         requires { e < length (edges self.now) }
         ensures value { slice_get (edges self.now) e ≡ Some result }

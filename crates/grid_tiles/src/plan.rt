@@ -69,9 +69,9 @@ pub(crate) fn cut_at(size: u32, parts: u32, i: u32) -> u32
 
 impl TilePlan {
     /// The plan of a grid of this size over `tile_rows` times `tile_cols` tiles, 1 to 64 together, with messages of
-    /// this shape. Refused with `TooManyTiles` exactly where there are two rows of tiles or more and their number times the
-    /// reach is above the rows, or two columns of tiles or more and their number times the reach is above the columns;
-    /// nothing else is refused. It takes no memory.
+    /// this shape. Refused with `TooManyTiles` exactly where there are two rows of tiles or more and their number times
+    /// the reach is above the rows, or two columns of tiles or more and their number times the reach is above the
+    /// columns; nothing else is refused. It takes no memory.
     pub fn new(
         rows: u32,
         cols: u32,

@@ -3,6 +3,7 @@
 ghost use Rattle.std.specs.Prelude.{◌≡◌, ℕ, ◌+◌, ◌-◌, ◌*◌, ◌<◌, ◌≤◌, ◌==◌, if◌then◌else◌, Some, length, slice_get};
 ghost use Rattle.std.specs.List.{All};
 ghost use Rattle.part_geometry.specs.declared.TheConstants.{LAST_ROUND};
+ghost use Rattle.stencil_def.specs.declared.limits.TheConstants.{MAX_SIDE};
 ghost use Rattle.stencil_def.specs.Limits.{IsValue};
 ghost use Rattle.stencil_def.specs.Plane.{Plane};
 ghost use Rattle.stencil_def.specs.declared.rule.Rule.{Rule};
@@ -54,8 +55,8 @@ fn leaving(tag: u32, rows: u32, cols: u32, reach: u32) -> (u32, u32)
 /// The row and the column of its receiver's block from which on they are put, where the receiver has so many of its
 /// own.
 fn landing(tag: u32, rows: u32, cols: u32, reach: u32) -> (u32, u32)
-    requires rows { rows ≤ 4096 }
-    requires cols { cols ≤ 4096 }
+    requires rows { rows ≤ MAX_SIDE }
+    requires cols { cols ≤ MAX_SIDE }
     requires reach { reach ≤ 2 }
     ensures row { result.0 ≡ (if tag == DOWN then 0 else
         (if tag == RIGHT then reach else (if tag == LEFT then reach else reach + rows))) }
