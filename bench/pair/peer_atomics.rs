@@ -191,8 +191,28 @@ impl Table {
     }
 }
 
+// Where marking threads wait for each other, so that they don't look at the words that the others change all the time:
+// the last round that was started, and for each marking thread but the starting one the last round that it has marked.
+struct Meeting(Vec<Lines<AtomicU64>>);
+
+impl Meeting {
+    fn new(plan: &Plan) -> Meeting {
+        Meeting((0..plan.markers).map(|_| Lines(AtomicU64::new(0))).collect())
+    }
+
+    fn tell(&self, number: usize, round: u64) {
+        self.0[number].0.store(round, SeqCst);
+    }
+
+    fn wait(&self, number: usize, round: u64) {
+        wait_until(|| self.0[number].0.load(SeqCst) >= round);
+    }
+}
+
 // The calls of both sides. Each comes from a thread that may make it, and at its time.
 trait Pair: Sync {
+    // Whether the marking threads meet: a round is opened by one thread, and all marks of it come before the test.
+    const MEETS: bool;
     fn pieces(&self) -> usize;
     fn start(&self, round: u64);
     fn is_open(&self, round: u64) -> bool;
@@ -234,6 +254,8 @@ impl Flags<'_> {
 }
 
 impl Pair for Flags<'_> {
+    const MEETS: bool = false;
+
     fn pieces(&self) -> usize {
         self.plan.send_parts
     }
@@ -360,6 +382,8 @@ impl Steps<'_> {
 }
 
 impl Pair for Steps<'_> {
+    const MEETS: bool = true;
+
     fn pieces(&self) -> usize {
         self.pieces.len()
     }
@@ -474,8 +498,34 @@ impl Times {
     }
 }
 
+// Opens a round, or waits until it is open.
+fn open<P: Pair>(pair: &P, meeting: &Meeting, marker: usize, round: u64) {
+    if marker == 0 {
+        pair.start(round);
+        meeting.tell(0, round);
+        return;
+    }
+    if P::MEETS {
+        meeting.wait(0, round);
+    }
+    wait_until(|| pair.is_open(round));
+}
+
+// After the marks of a round: tests until it is sent, or says that this thread's marks are made.
+fn close<P: Pair>(pair: &P, plan: &Plan, meeting: &Meeting, marker: usize, round: u64) {
+    if marker > 0 {
+        meeting.tell(marker, round);
+        return;
+    }
+    if P::MEETS {
+        let others = (1..plan.markers).filter(|marker| !run_of(*marker, plan.markers, plan.send_parts).is_empty());
+        others.for_each(|marker| meeting.wait(marker, round));
+    }
+    wait_until(|| pair.is_sent(round));
+}
+
 // The work of one marking thread. Gives how many pieces went out by its marks.
-fn send<P: Pair>(pair: &P, plan: &Plan, times: &Times, marker: usize) -> u64 {
+fn send<P: Pair>(pair: &P, plan: &Plan, times: &Times, meeting: &Meeting, marker: usize) -> u64 {
     let run = run_of(marker, plan.markers, plan.send_parts);
     if marker > 0 && run.is_empty() {
         return 0;
@@ -484,11 +534,7 @@ fn send<P: Pair>(pair: &P, plan: &Plan, times: &Times, marker: usize) -> u64 {
     let timed = plan.parts_over(0).end - 1;
     let (mut bytes, mut sent) = (vec![0; plan.send_bytes], 0);
     for round in 1..=plan.rounds {
-        if marker == 0 {
-            pair.start(round);
-        } else {
-            wait_until(|| pair.is_open(round));
-        }
+        open(pair, meeting, marker, round);
         for part in run.clone() {
             if half == Some(part) {
                 thread::sleep(plan.pause);
@@ -499,9 +545,7 @@ fn send<P: Pair>(pair: &P, plan: &Plan, times: &Times, marker: usize) -> u64 {
             }
             sent += pair.mark(round, part, &bytes) as u64;
         }
-        if marker == 0 {
-            wait_until(|| pair.is_sent(round));
-        }
+        close(pair, plan, meeting, marker, round);
     }
     sent
 }
@@ -534,10 +578,10 @@ fn receive<P: Pair>(pair: &P, plan: &Plan, times: &Times) {
 }
 
 fn run<P: Pair>(pair: &P, plan: &Plan) {
-    let times = &Times::new(plan.rounds);
+    let (times, meeting) = (&Times::new(plan.rounds), &Meeting::new(plan));
     let ready = &Barrier::new(1 + plan.markers + plan.watchers);
     let (time, sent) = thread::scope(|threads| {
-        let marker = |marker| threads.spawn(move || (ready.wait(), send(pair, plan, times, marker)).1);
+        let marker = |marker| threads.spawn(move || (ready.wait(), send(pair, plan, times, meeting, marker)).1);
         let markers: Vec<_> = (0..plan.markers).map(marker).collect();
         for watcher in 0..plan.watchers {
             threads.spawn(move || (ready.wait(), watch(pair, plan, watcher)));

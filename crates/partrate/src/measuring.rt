@@ -9,6 +9,8 @@ use crate::receiving::{Receiving, receive_all};
 use crate::shared::Shared;
 use crate::threads::{join_markers, join_watchers, start_markers, start_sender, start_watchers};
 use crate::times::Times;
+use crossbeam_utils::CachePadded;
+use crossbeam_utils::atomic::AtomicCell;
 use pair_rule::{AnyBytes, Closed, Pair};
 use part_recv::{RecvEnd, first_laws};
 use part_send::SendEnd;
@@ -128,6 +130,10 @@ pub fn measure<R: Clock + Threads + Wait + Sync>(
     let (pair, send, recv) = Pair::<AnyBytes>::create(alloc, plan.geometry, ())?;
     let send = SendEnd::from_seat(&pair, send);
     let recv = RecvEnd::from_seat(&pair, recv);
+    let mut reached = Vec::new(alloc);
+    for _ in 0..plan.markers {
+        reached.push(CachePadded::new(AtomicCell::new(0u32)))?;
+    }
     // On the heap, apart from what this thread writes while the others read it.
     let shared = Box::new(
         alloc,
@@ -136,6 +142,7 @@ pub fn measure<R: Clock + Threads + Wait + Sync>(
             plan,
             begun: Instant::now(rt).map_err(|_| Fault::NoClock)?,
             fault: OnceLock::new(),
+            reached,
         },
     )?;
     let ended = run_over(rt, alloc, &shared, send, recv)?;
@@ -144,6 +151,7 @@ pub fn measure<R: Clock + Threads + Wait + Sync>(
         plan,
         begun: _,
         fault: _,
+        reached: _,
     } = Box::into_inner(shared);
     let closed = close(pair, ended.send, ended.recv)?;
     let (sent, closed) = (ended.sent, closed.pieces_out());

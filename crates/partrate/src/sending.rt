@@ -6,7 +6,7 @@ ghost use Rattle.pair_rule.specs.Seats.{IsOf};
 use crate::bytes::fill;
 use crate::fault::Fault;
 use crate::plan::{Plan, run_of};
-use crate::shared::{Looks, Shared};
+use crate::shared::{Looks, Shared, wait_for};
 use crate::times::Times;
 use pair_rule::AnyBytes;
 use part_send::{Marker, ReadyRefusal, SendEnd, SendTest};
@@ -155,7 +155,11 @@ pub fn mark_all<R: Wait + Clock>(
     let mut bytes = vec![in alloc; 0u8; shared.plan.geometry.send_bytes() as usize]?;
     let mut marking = Marking::new(alloc, &shared.plan, marker)?;
     for round in 1..=shared.plan.rounds {
+        if work.first < work.end {
+            wait_for(rt, shared, 0, round)?;
+        }
         mark_round(rt, shared, &work, &mut marking, &mut bytes, round)?;
+        shared.tell(number, round);
     }
     Ok(marking)
 }
@@ -178,7 +182,13 @@ pub fn send_all<R: Wait + Clock>(
     let mut marking = Marking::new(alloc, &shared.plan, marker)?;
     for _ in 0..shared.plan.rounds {
         let round = sender.start(&shared.pair).map_err(Fault::NotStarted)?;
+        if shared.plan.markers > 1 {
+            shared.tell(0, round);
+        }
         mark_round(rt, shared, &work, &mut marking, &mut bytes, round)?;
+        for number in 1..shared.plan.markers {
+            wait_for(rt, shared, number, round)?;
+        }
         finish(rt, shared, &mut sender)?;
     }
     Ok(Sending {
