@@ -6,3 +6,4 @@ pub mod Plans
 pub mod Checks
 pub mod Told
 pub mod Output
+pub mod Stepping

@@ -5,15 +5,17 @@ use Rattle.stencil_def.specs.Plane.{Plane}
 use Rattle.stencil_def.specs.Step.{fold_plane}
 use Rattle.stencil_def.specs.declared.rule.Rule.{Rule}
 use Rattle.stencil_words.specs.declared.words.StencilWords.{StencilWords}
-use Rattle.stencil_top.specs.Outcome.{IsRuleOf, IsStencilOutput, printed}
+use Rattle.stencil_top.specs.Outcome.{IsLastStep, IsRuleOf, IsStencilOutput, printed}
 use Rattle.stencil_top.specs.declared.reading.Inputs.{Inputs}
 
-pub is_output : {E : Type 0} (w : StencilWords) (inputs : Inputs) (rule : Rule) (last : Plane) (result : Result (Vec ℕ Global) E) → IsRuleOf w inputs.weights rule
-    → last ≡ fold_plane inputs.grid rule w.steps → IfOk result (λ text. text.items ≡ printed w.source w.steps last)
+pub is_output : {E : Type 0} (w : StencilWords) (inputs : Inputs) (rule : Rule) (n : ℕ) (grid : Plane) (result : Result (Vec ℕ Global) E) → IsRuleOf w inputs.weights rule
+    → IsLastStep inputs.grid rule w.steps w.until n → grid ≡ fold_plane inputs.grid rule n → IfOk result (λ text. text.items ≡ printed w.source n grid)
     → IfOk result (λ text. IsStencilOutput w inputs text.items)
-is_output w inputs rule last (Ok text) is_rule is_last is = record {
+is_output w inputs rule n grid (Ok text) is_rule is_last is_grid is = record {
   rule = rule;
   rule_is = is_rule;
-  output_is = is ∙ ap (λ (p : Plane). printed w.source w.steps p) is_last;
+  last = n;
+  last_is = is_last;
+  output_is = is ∙ ap (λ (p : Plane). printed w.source n p) is_grid;
 }
-is_output w inputs rule last (Err e) is_rule is_last is = tt
+is_output w inputs rule n grid (Err e) is_rule is_last is_grid is = tt

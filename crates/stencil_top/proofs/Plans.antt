@@ -1,6 +1,6 @@
 -- Words that are the same but for their plan have one outcome: both begin with the same grid and weights, and then have
 -- the same rule, where neither plan is refused.
-use Rattle.std.proofs.Common.{◌≡◌, ℕ, zero, suc, ◌+◌, ◌*◌, ◌/◌, ◌%◌, ℤ, pos, Bool, true, false, List, map, Result, Ok, Err, refl, sym, ap, ◌∙◌, subst}
+use Rattle.std.proofs.Common.{◌≡◌, ℕ, zero, suc, ◌+◌, ◌-◌, ◌*◌, ◌/◌, ◌%◌, ◌<◌, ◌≤◌, ℤ, pos, ◌<ℤ◌, ◌≤ℤ◌, Bool, true, false, List, map, Option, Some, None, Result, Ok, Err, refl, sym, ap, ◌∙◌, subst}
 use Rattle.std.specs.Prelude.{if◌then◌else◌, int_div, ◌-ℤ◌, ◌*ℤ◌}
 use Rattle.std.specs.List.{range_with_len}
 use Rattle.stencil_def.specs.Plane.{Plane}
@@ -8,9 +8,11 @@ use Rattle.stencil_def.specs.Square.{Square, side, weight}
 use Rattle.stencil_def.specs.Step.{cell_or, clamped, fold_plane, new_cell, next_plane, place, read, sum_below}
 use Rattle.stencil_def.specs.declared.rule.Around.{Around}
 use Rattle.stencil_def.specs.declared.rule.Rule.{Rule}
+use Rattle.cell_lanes.specs.Change.{change, step_change}
+use Rattle.cell_lanes.proofs.StopFacts.{stop-one}
 use Rattle.halo_plan.specs.Making.{needs_more}
 use Rattle.stencil_words.specs.declared.words.StencilWords.{StencilWords}
-use Rattle.stencil_top.specs.Outcome.{EndsWith, IsRuleOf, IsStencilOutput, Outcome, answered, ◌>>=◌, inputs_of, plan_of, planned, printed}
+use Rattle.stencil_top.specs.Outcome.{EndsWith, IsLastStep, IsRuleOf, IsStencilOutput, Outcome, answered, ◌>>=◌, inputs_of, plan_of, planned, printed}
 use Rattle.stencil_top.specs.Plans.{IsPlanRefused, PlansLeaveOutcomes}
 use Rattle.stencil_top.specs.declared.note.Note.{Note}
 use Rattle.stencil_top.specs.declared.note.Note.TheVariants.{TooManyRanks}
@@ -58,11 +60,31 @@ one_rule w weights r s a b = record {
   around_same = a.around_is ∙ sym b.around_is;
 }
 
+-- a run has one last step
+last_by : (g : Plane) (r s : Rule) (steps : ℕ) (until : Option ℤ) (n : ℕ) → IsSameRule r s → IsLastStep g r steps until n → IsLastStep g s steps until n
+last_by g r s steps None n e last = last
+last_by g r s steps (Some until) n e last = record {
+  most = last.most;
+  before = λ k some less. subst (λ m. until <ℤ pos m) (one_change k) (last.before k some less);
+  early = λ less. let early = last.early less in (early.0, subst (λ m. pos m ≤ℤ until) (one_change n) early.1);
+}
+  where
+    one_change : (k : ℕ) → step_change g r k ≡ step_change g s k
+    one_change k = λ i. change (one_fold g r s e (k - 1) i) (one_fold g r s e k i)
+
+one_last : (g : Plane) (rule : Rule) (steps : ℕ) (until : Option ℤ) (n m : ℕ) → IsLastStep g rule steps until n → IsLastStep g rule steps until m → n ≡ m
+one_last g rule steps None n m a b = a ∙ sym b
+one_last g rule steps (Some until) n m a b = stop-one g rule steps until n m a b
+
 -- and so one output
 one_output : (w : StencilWords) (inputs : Inputs) (x y : List ℕ) → IsStencilOutput w inputs x → IsStencilOutput w inputs y → x ≡ y
 one_output w inputs x y a b =
+    let g = inputs.grid in
+    let rule = one_rule w inputs.weights a.rule b.rule a.rule_is b.rule_is in
+    let last = one_last g b.rule w.steps w.until a.last b.last (last_by g a.rule b.rule w.steps w.until a.last rule a.last_is) b.last_is in
     a.output_is
-    ∙ ap (λ (p : Plane). printed w.source w.steps p) (one_fold inputs.grid a.rule b.rule (one_rule w inputs.weights a.rule b.rule a.rule_is b.rule_is) w.steps)
+    ∙ ap (λ (p : Plane). printed w.source a.last p) (one_fold g a.rule b.rule rule a.last)
+    ∙ ap (λ (n : ℕ). printed w.source n (fold_plane g b.rule n)) last
     ∙ sym b.output_is
 
 -- the output doesn't speak of the plan
@@ -75,6 +97,8 @@ other_plan w plan inputs x a = record {
     edge_is = a.rule_is.edge_is;
     around_is = a.rule_is.around_is;
   };
+  last = a.last;
+  last_is = a.last_is;
   output_is = a.output_is;
 }
 

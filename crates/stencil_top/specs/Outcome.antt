@@ -1,10 +1,11 @@
 -- How a run ends, by its words and the texts in its files.
-use Rattle.std.specs.Prelude.{◌≡◌, ℕ, nat_lt, if◌then◌else◌, pos, List, [], ◌∷◌, length, Option, Some, None}
+use Rattle.std.specs.Prelude.{◌≡◌, ℕ, nat_lt, if◌then◌else◌, ℤ, pos, List, [], ◌∷◌, length, Option, Some, None}
 use Rattle.std.specs.Prelude.{option_and_then, Result, Ok, Err}
 use Rattle.stencil_def.specs.Plane.{Plane}
 use Rattle.stencil_def.specs.Square.{Square, square_of}
 use Rattle.stencil_def.specs.Step.{fold_plane}
 use Rattle.stencil_def.specs.declared.rule.Rule.{Rule}
+use Rattle.cell_lanes.specs.Change.{IsStop}
 use Rattle.grid_text.specs.Reading.{grid_of, weights_of}
 use Rattle.grid_text.specs.Printing.{grid_text, summary_text}
 use Rattle.grid_text.specs.Making.{made_grid}
@@ -162,11 +163,19 @@ abbrev pub printed : Source → ℕ → Plane → List ℕ
 printed (Grid grid weights) steps last = grid_text last
 printed (Make size weights) steps last = summary_text last steps
 
+-- step n is the last: all of so many steps are made, or where the run is to end with little change only those up to the
+-- first one that changes no cell by more
+abbrev pub IsLastStep : Plane → Rule → ℕ → Option ℤ → ℕ → Type 0
+IsLastStep g rule steps None n = n ≡ steps
+IsLastStep g rule steps (Some until) n = IsStop g rule steps until n
+
 -- the output of a stencil: the grid after the last step of that rule; the plan has no part in it
 pub record IsStencilOutput (w : StencilWords) (inputs : Inputs) (output : List ℕ) : Type 0 where
   pub rule : Rule
   pub rule_is : IsRuleOf w inputs.weights rule
-  pub output_is : output ≡ printed w.source w.steps (fold_plane inputs.grid rule w.steps)
+  pub last : ℕ
+  pub last_is : IsLastStep inputs.grid rule w.steps w.until last
+  pub output_is : output ≡ printed w.source last (fold_plane inputs.grid rule last)
 
 -- the status of a run, what it writes to the output, and what it notes
 pub record Outcome : Type 0 where

@@ -3,13 +3,15 @@
 ghost use Rattle.std.specs.Prelude.{◌≡◌, ◌≤◌, IfOk};
 ghost use Rattle.stencil_def.specs.Plane.{IsPlane};
 ghost use Rattle.stencil_def.specs.Step.{fold_plane};
+ghost use Rattle.cell_lanes.specs.Change.{IsStop};
+ghost use Rattle.rank_task.specs.Ranks.{ranks_after};
 ghost use Rattle.stencil_words.specs.Limits.{IsRead};
 ghost use Rattle.stencil_words.specs.declared.words.TheConstants.{MAX_STEPS};
-ghost use Rattle.stencil_top.specs.Outcome.{IsRuleOf, IsStencilOutput, or_bad_plan, plan_of, printed};
+ghost use Rattle.stencil_top.specs.Outcome.{IsLastStep, IsRuleOf, IsStencilOutput, or_bad_plan, plan_of, printed};
 
 use crate::note::Note;
 use crate::reading::Inputs;
-use cell_lanes::run_lanes;
+use cell_lanes::{Stopped, run_lanes, run_until};
 use grid_text::{print_grid, print_summary};
 use halo_plan::{HaloPlan, PlanFault};
 use rank_task::SerialRanks;
@@ -62,28 +64,85 @@ fn rule_of(words: &StencilWords, weights: Weights) -> Rule
     }
 }
 
-/// The grid after this many steps of the rule, which the ranks of the plan make together where there are several.
+/// The grid after the last step of the rule, and how many steps were made, on a grid that isn't shared.
+fn run_alone(
+    alloc: Global,
+    grid: &Grid,
+    rule: &Rule,
+    steps: u32,
+    until: Option<i64>,
+) -> Result<Stopped, AllocError>
+    ensures last { IfOk result (λ stopped. IsLastStep grid.now rule.now steps until stopped.steps) }
+    ensures fold { IfOk result (λ stopped. stopped.grid ≡ fold_plane grid.now rule.now stopped.steps) }
+    ensures limits { IfOk result (λ stopped. IsPlane stopped.grid) }
+{
+    match until {
+        Some(until) => run_until(alloc, grid, rule, steps, until),
+        None => {
+            let grid = run_lanes(alloc, grid, rule, steps)?;
+            Ok(Stopped { grid, steps })
+        }
+    }
+}
+
+/// Makes steps of all ranks up to the first that changes no cell of the whole grid by more than `until`, or so many
+/// steps where none is such a step, and answers how many were made.
+fn step_until(ranks: &mut SerialRanks, steps: u32, until: i64) -> u32
+    requires first { ranks.old.steps ≡ 0 }
+    requires steps { steps ≤ MAX_STEPS }
+    ensures stop { IsStop ranks.old.grid ranks.old.rule steps until result }
+    ensures after { ranks.new ≡ ranks_after ranks.old result }
+{
+    for made in 0..steps {
+        if ranks.step_changed() <= until {
+            return made + 1;
+        }
+    }
+    steps
+}
+
+/// Makes the steps of all ranks up to the last, and answers how many were made.
+fn run_ranks(ranks: &mut SerialRanks, steps: u32, until: Option<i64>) -> u32
+    requires first { ranks.old.steps ≡ 0 }
+    requires steps { steps ≤ MAX_STEPS }
+    ensures last { IsLastStep ranks.old.grid ranks.old.rule steps until result }
+    ensures after { ranks.new ≡ ranks_after ranks.old result }
+{
+    match until {
+        Some(until) => step_until(ranks, steps, until),
+        None => {
+            ranks.run(steps);
+            steps
+        }
+    }
+}
+
+/// The grid after the last step of the rule, which the ranks of the plan make together where there are several, and how
+/// many steps were made.
 fn run(
     alloc: Global,
     plan: HaloPlan,
     grid: &Grid,
     rule: Rule,
     steps: u32,
-) -> Result<Grid, AllocError>
+    until: Option<i64>,
+) -> Result<Stopped, AllocError>
     requires rows { grid.now.rows ≡ plan.rows }
     requires cols { grid.now.cols ≡ plan.cols }
     requires reach { rule.weights.reach ≡ plan.reach }
     requires around { rule.around ≡ plan.around }
     requires steps { steps ≤ MAX_STEPS }
-    ensures fold { IfOk result (λ last. last ≡ fold_plane grid.now rule steps) }
-    ensures limits { IfOk result IsPlane }
+    ensures last { IfOk result (λ stopped. IsLastStep grid.now rule steps until stopped.steps) }
+    ensures fold { IfOk result (λ stopped. stopped.grid ≡ fold_plane grid.now rule stopped.steps) }
+    ensures limits { IfOk result (λ stopped. IsPlane stopped.grid) }
 {
     if plan.ranks() == 1 {
-        return run_lanes(alloc, grid, &rule, steps);
+        return run_alone(alloc, grid, &rule, steps, until);
     }
     let mut ranks = SerialRanks::new(alloc, plan, grid, rule)?;
-    ranks.run(steps);
-    ranks.gather(alloc)
+    let made = run_ranks(&mut ranks, steps, until);
+    let grid = ranks.gather(alloc)?;
+    Ok(Stopped { grid, steps: made })
 }
 
 /// The text of the last grid: that of a grid from a file is the grid, and that of a made one is the summary.
@@ -108,6 +167,6 @@ pub(crate) fn stencil_output(
     ensures { IfOk result (λ text. IsStencilOutput words.now inputs.now text.items) }
 {
     let rule = rule_of(words, inputs.weights);
-    let last = run(alloc, plan, &inputs.grid, rule, words.steps)?;
-    print(alloc, &words.source, words.steps, &last)
+    let last = run(alloc, plan, &inputs.grid, rule, words.steps, words.until)?;
+    print(alloc, &words.source, last.steps, &last.grid)
 }
