@@ -1,6 +1,6 @@
 -- The greatest change of the whole grid: that of the rows of the first ranks, and of one rank more. The ranks' rows lie
 -- one after another, so the change of two parts of the rows, one below the other, is the greater of both.
-use Rattle.std.proofs.Common.{◌≡◌, ◌∙◌, sym, ap, ℕ, ◌+◌, ◌-◌, ◌<◌, ◌≤◌, ℤ, pos, to_z, of_z, w64, arith}
+use Rattle.std.proofs.Common.{◌≡◌, ◌∙◌, sym, ap, ℕ, ◌+◌, ℤ, pos, to_z, of_z, w64, arith}
 use Rattle.std.specs.Ordering.{int_cmp, ord_max}
 use Rattle.stencil_def.specs.Plane.{Plane}
 use Rattle.stencil_def.specs.declared.rule.Rule.{Rule}

@@ -9,7 +9,7 @@ use Rattle.std.proofs.lemmas.Simd.{get_or-chunk, length-chunk}
 use Rattle.std.proofs.lemmas.List.Elements.{All-take, All-drop}
 use Rattle.stencil_def.specs.Limits.{IsValue}
 use Rattle.stencil_def.specs.Plane.{Plane, IsPlane, cell, row_of}
-use Rattle.cell_lanes.specs.Change.{IsChange, change, change_within, difference, greatest_below, list_change, row_change}
+use Rattle.cell_lanes.specs.Change.{IsChange, change, difference, greatest_below, list_change, row_change}
 use Rattle.cell_lanes.proofs.ChangeFacts.{from-first, gap, greatest-met, greatest-most, greatest-same}
 
 -- a row has a value for each column

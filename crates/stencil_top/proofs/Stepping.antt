@@ -1,6 +1,5 @@
 -- Steps of all ranks, one at a time: one step after n is n + 1 steps, and its change is that of step n + 1.
 use Rattle.std.proofs.Common.{◌≡◌, ◌∙◌, sym, ap, ℕ, ◌+◌, ℤ, pos, arith}
-use Rattle.stencil_def.specs.Plane.{Plane}
 use Rattle.stencil_def.specs.Step.{fold_plane, next_plane}
 use Rattle.stencil_def.proofs.StepFacts.{fold-more}
 use Rattle.cell_lanes.specs.Change.{change}

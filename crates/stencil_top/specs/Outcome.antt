@@ -163,8 +163,8 @@ abbrev pub printed : Source → ℕ → Plane → List ℕ
 printed (Grid grid weights) steps last = grid_text last
 printed (Make size weights) steps last = summary_text last steps
 
--- step n is the last: all of so many steps are made, or where the run is to end with little change only those up to the
--- first one that changes no cell by more
+-- a run ends after n steps: after all of so many or, where it is to end once a step changes no cell by more than
+-- `until`, at that stop
 abbrev pub IsLastStep : Plane → Rule → ℕ → Option ℤ → ℕ → Type 0
 IsLastStep g rule steps None n = n ≡ steps
 IsLastStep g rule steps (Some until) n = IsStop g rule steps until n

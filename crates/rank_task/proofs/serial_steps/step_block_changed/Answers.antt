@@ -1,4 +1,4 @@
-use Rattle.std.proofs.Common.{◌≡◌, ◌∙◌, sym, ap, pos, arith}
+use Rattle.std.proofs.Common.{◌∙◌, pos, arith}
 use Rattle.stencil_def.specs.Step.{next_plane}
 use Rattle.cell_lanes.specs.Change.{change_within}
 use Rattle.cell_lanes.proofs.ChangeFacts.{change-back}
