@@ -90,7 +90,8 @@ texts words = map string_bytes words
 abbrev pub names : List Text
 names =
     codes "grid" ∷ codes "make" ∷ codes "weights" ∷ codes "steps" ∷ codes "ranks" ∷ codes "send-parts" ∷
-    codes "recv-parts" ∷ codes "grain" ∷ codes "depth" ∷ codes "div" ∷ codes "edge" ∷ codes "around" ∷ codes "until" ∷ []
+    codes "recv-parts" ∷ codes "grain" ∷ codes "depth" ∷ codes "div" ∷ codes "edge" ∷ codes "around" ∷
+    codes "until" ∷ []
 
 -- the names of two options that aren't given together
 abbrev pub exclusions : List (Text × Text)
