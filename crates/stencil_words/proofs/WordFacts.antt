@@ -1,6 +1,6 @@
 -- What a reading says, and the limits that it keeps.
-use Rattle.std.proofs.Common.{◌≡◌, ℕ, ◌*◌, ◌≤◌, Bool, true, false, ℤ, pos, unsigned_abs, List, [], ◌∷◌, length, Option, Some, None, Ok, Err, refl, subst, arith}
-use Rattle.std.specs.Prelude.{IfSome, String, bytes_eq, codes, drop, is_some, string_bytes, option_and_then, option_map, nat_le, not, ◌==◌, if◌then◌else◌}
+use Rattle.std.proofs.Common.{◌≡◌, ℕ, ◌*◌, ◌≤◌, Bool, true, false, ℤ, pos, unsigned_abs, List, [], ◌∷◌, length, Option, Some, None, Ok, Err, refl, sym, ap, ◌∙◌, subst, true≢false, arith}
+use Rattle.std.specs.Prelude.{IfSome, IsSome, String, bytes_eq, codes, drop, is_some, string_bytes, option_and_then, option_map, nat_le, not, ◌&&◌, ◌==◌, if◌then◌else◌}
 use Rattle.std.specs.declared.alloc.Global.{Global}
 use Rattle.std.specs.List.{slice_split}
 use Rattle.std.proofs.lemmas.Bool.Decides.{nat_tests}
@@ -18,9 +18,10 @@ use Rattle.stencil_words.specs.declared.words.TheConstants.{MAX_STEPS}
 use Rattle.stencil_words.specs.declared.words.PlanWords.{PlanWords}
 use Rattle.stencil_words.specs.declared.words.Size.{Size}
 use Rattle.stencil_words.specs.declared.words.Source.{Source}
-use Rattle.stencil_words.specs.Limits.{IsPlanRead, IsRead, IsSize, IsSource}
+use Rattle.stencil_words.specs.declared.words.TileWords.{TileWords}
+use Rattle.stencil_words.specs.Limits.{IsPlanRead, IsRead, IsSize, IsSource, IsTileRead}
 use Rattle.stencil_words.specs.Options.{◌>>=◌, Pair, Text, Values, are_apart, are_sound, options_of, texts, value, when}
-use Rattle.stencil_words.specs.Words.{around_of, grid_source, is_between, made_source, change_in, if_given, number_given, number_in, one_source, or_default, plan_words, reading_of, reading_of_options, reading_of_values, signed_in, size_in, size_of, size_of_parts, source_of, stencil_reading, value_of_result, with_source}
+use Rattle.stencil_words.specs.Words.{around_of, grid_source, is_between, made_source, change_in, if_given, number_given, number_in, one_source, or_default, plan_words, reading_of, reading_of_options, reading_of_values, signed_in, size_in, size_of, size_of_parts, source_of, stencil_reading, tiles_given, tiles_in, tiles_of, tiles_of_parts, value_of_result, with_source}
 
 -- words of another command, of no options, and of options
 pub no-words : (words : List (String Global)) → length words ≡ 0 → None ≡ stencil_reading (texts words)
@@ -216,9 +217,59 @@ plan-limits given =
     }
     few ranks send recv grain depth hr hs hv hg hd false t = tt
 
-with-limits : (given : Values) (source : Source) → IsSource source → IfSome (with_source given source) IsRead
+tiles-limits : (rows cols : Text) → IfSome (tiles_in rows cols) IsTileRead
+unfolding tiles_in
+tiles-limits rows cols =
+    bind-some (number_in 1 MAX_RANKS rows) _ IsTileRead (λ a ea.
+    bind-some (number_in 1 MAX_RANKS cols) _ IsTileRead (λ b eb.
+    few a b (number-range 1 MAX_RANKS a rows ea) (number-range 1 MAX_RANKS b cols eb) (nat_le (a * b) MAX_RANKS) refl))
+  where
+    few : (a b : ℕ) → IsWithin 1 MAX_RANKS a → IsWithin 1 MAX_RANKS b → (t : Bool) → nat_le (a * b) MAX_RANKS ≡ t
+        → IfSome (when {A = TileWords} t record { rows = a; cols = b }) IsTileRead
+    few a b ha hb true t =
+        let tiles : a * b ≤ MAX_RANKS = grind (arith, nat_tests) in
+        record { rows_limits = ha; cols_limits = hb; tiles_limit = tiles }
+    few a b ha hb false t = tt
+
+tile-parts-limits : (parts : List Text) → IfSome (tiles_of_parts parts) IsTileRead
+tile-parts-limits [] = tt
+tile-parts-limits (a ∷ []) = tt
+tile-parts-limits (a ∷ b ∷ []) = tiles-limits a b
+tile-parts-limits (a ∷ b ∷ c ∷ more) = tt
+
+given-limits : (tiles : Option TileWords) (given : Option Text) → if_given tiles_of given ≡ Some tiles → IfSome tiles IsTileRead
+given-limits tiles None e = let same : None ≡ tiles = cc in rw (← same) tt
+given-limits tiles (Some text) e = by (tiles_of text) refl e
+  where
+    by : (o : Option TileWords) → tiles_of text ≡ o → option_map Some o ≡ Some tiles → IfSome tiles IsTileRead
+    by None f h = cc h
+    by (Some t) f h =
+        let same : Some t ≡ tiles = cc in
+        let limits = at-some (tiles_of text) IsTileRead t (tile-parts-limits (slice_split (λ byte. byte == 44) text)) f in
+        subst (λ u. IfSome u IsTileRead) same limits
+
+-- what isn't given has no value
+not-given : {A : Type 0} (read : Text → Option A) (x : Option A) (given : Option Text) → is_some given ≡ false → if_given read given ≡ Some x → x ≡ None
+not-given read x None none e = cc
+not-given read x (Some text) none e = cc none
+
+-- tiles come from their option
+is-given : {A : Type 0} (read : Text → Option A) (x : Option A) (given : Option Text) → IsSome x → if_given read given ≡ Some x → is_some given ≡ true
+is-given read x None some e = let same : None ≡ x = cc in absurd (true≢false (sym some ∙ ap is_some (sym same)))
+is-given read x (Some text) some e = refl
+
+-- of two options that exclude each other one is given
+other-not : (a b c d : Bool) → (not a && (not (b && c) && (not (b && d) && true))) ≡ true → b ≡ true → d ≡ false
+other-not a b c false t e = refl
+other-not true b c true t e = cc t
+other-not false false c true t e = cc e
+other-not false true true true t e = cc t
+other-not false true false true t e = cc t
+
+with-limits : (given : Values) (source : Source) (tiles : Option TileWords) → IsSource source → are_apart given ≡ true
+    → tiles_given given ≡ Some tiles → IfSome (with_source given source tiles) IsRead
 unfolding with_source
-with-limits given source h =
+with-limits given source tiles h apart et =
     bind-some (number_given given (codes "steps") 0 MAX_STEPS 1) _ IsRead (λ steps es.
     bind-some (plan_words given) _ IsRead (λ plan ep.
     bind-some (number_given given (codes "div") 1 MAX_DIV 1) _ IsRead (λ div ed.
@@ -232,6 +283,8 @@ with-limits given source h =
       div_limits = default-range 1 MAX_DIV 1 div (given (codes "div")) (omega arith) (omega arith) ed;
       edge_limits = edge-limit edge (given (codes "edge")) ee;
       until_limits = until-limits until (given (codes "until")) eu;
+      tiles_limits = given-limits tiles (given (codes "tiles")) et;
+      tiles_alone = λ some. not-given change_in until (given (codes "until")) (other-not _ _ _ _ apart (is-given tiles_of tiles (given (codes "tiles")) some et)) eu;
     }))))))
 
 -- the limits of a reading
@@ -240,7 +293,11 @@ unfolding reading_of_values source_of
 values-limits given =
     bind-some (when (are_apart given) given) _ IsRead (λ apart w.
     bind-some (source_of apart) _ IsRead (λ source e.
-    with-limits apart source (at-some (source_of apart) IsSource source (one-limits (apart (codes "grid")) (apart (codes "make")) (apart (codes "weights"))) e)))
+    bind-some (tiles_given apart) _ IsRead (λ tiles f.
+    let two = when-some (are_apart given) given apart w in
+    with-limits apart source tiles
+    (at-some (source_of apart) IsSource source (one-limits (apart (codes "grid")) (apart (codes "make")) (apart (codes "weights"))) e)
+    (ap are_apart (sym two.1) ∙ two.0) f)))
 
 -- what is the opposite of true is false
 pub is-false : (b : Bool) → true ≡ not b → b ≡ false

@@ -91,11 +91,12 @@ abbrev pub names : List Text
 names =
     codes "grid" ∷ codes "make" ∷ codes "weights" ∷ codes "steps" ∷ codes "ranks" ∷ codes "send-parts" ∷
     codes "recv-parts" ∷ codes "grain" ∷ codes "depth" ∷ codes "div" ∷ codes "edge" ∷ codes "around" ∷
-    codes "until" ∷ []
+    codes "until" ∷ codes "tiles" ∷ []
 
 -- the names of two options that aren't given together
 abbrev pub exclusions : List (Text × Text)
-exclusions = (codes "grid", codes "make") ∷ []
+exclusions =
+    (codes "grid", codes "make") ∷ (codes "tiles", codes "ranks") ∷ (codes "tiles", codes "until") ∷ []
 
 abbrev pub is_name : Text → Bool
 is_name name = list_any (λ known. bytes_eq known name) names

@@ -18,6 +18,7 @@ use Rattle.stencil_words.specs.declared.words.Size.{Size}
 use Rattle.stencil_words.specs.declared.words.Source.{Source}
 use Rattle.stencil_words.specs.declared.words.Source.TheVariants.{Grid, Make}
 use Rattle.stencil_words.specs.declared.words.StencilWords.{StencilWords}
+use Rattle.stencil_words.specs.declared.words.TileWords.{TileWords}
 
 -- low ≤ n ≤ high
 abbrev pub is_between : ℕ → ℕ → ℕ → Bool
@@ -111,23 +112,52 @@ plan_words given = do
   when (shares_few send_parts recv_parts)
       record { ranks = ranks; send_parts = send_parts; recv_parts = recv_parts; grain = grain; depth = depth }
 
--- what the options say beside where the grid comes from
-unfoldable pub with_source : Values → Source → Option StencilWords
-with_source given source = do
+-- as many rows of tiles and columns of tiles, where there are at most 64 tiles
+unfoldable pub tiles_in : Text → Text → Option TileWords
+tiles_in rows cols = do
+  a ← number_in 1 MAX_RANKS rows
+  b ← number_in 1 MAX_RANKS cols
+  when (nat_le (a * b) MAX_RANKS) record { rows = a; cols = b }
+
+abbrev pub tiles_of_parts : List Text → Option TileWords
+tiles_of_parts (rows ∷ cols ∷ []) = tiles_in rows cols
+tiles_of_parts _ = None
+
+-- A,B
+abbrev pub tiles_of : Text → Option TileWords
+tiles_of text = tiles_of_parts (slice_split (λ byte. byte == 44) text)
+
+-- the tiles that the options ask for, where they ask for some
+abbrev pub tiles_given : Values → Option (Option TileWords)
+tiles_given given = if_given tiles_of (given (codes "tiles"))
+
+-- what the options say beside where the grid comes from and what tiles share it
+unfoldable pub with_source : Values → Source → Option TileWords → Option StencilWords
+with_source given source tiles = do
   steps ← number_given given (codes "steps") 0 MAX_STEPS 1
   plan ← plan_words given
   div ← number_given given (codes "div") 1 MAX_DIV 1
   edge ← or_default (signed_in (unsigned_abs MAX_VALUE)) (pos 0) (given (codes "edge"))
   around ← or_default around_of around.Fixed (given (codes "around"))
   until ← if_given change_in (given (codes "until"))
-  Some record { source = source; steps = steps; plan = plan; div = div; edge = edge; around = around; until = until }
+  Some record {
+    source = source;
+    steps = steps;
+    plan = plan;
+    tiles = tiles;
+    div = div;
+    edge = edge;
+    around = around;
+    until = until;
+  }
 
 -- the reading of values
 unfoldable pub reading_of_values : Values → Option StencilWords
 reading_of_values given = do
   apart ← when (are_apart given) given
   source ← source_of apart
-  with_source apart source
+  tiles ← tiles_given apart
+  with_source apart source tiles
 
 -- the reading of options, where each has a known name and no two have one
 unfoldable pub reading_of_options : List Pair → Option StencilWords

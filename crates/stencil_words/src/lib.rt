@@ -10,4 +10,4 @@ mod words;
 pub use file_name::FileName;
 pub use options::is_value;
 pub use read::read_words;
-pub use words::{MAX_STEPS, PlanWords, Size, Source, StencilWords};
+pub use words::{MAX_STEPS, PlanWords, Size, Source, StencilWords, TileWords};

@@ -8,11 +8,12 @@ ghost use Rattle.stencil_words.specs.Command.{given_in};
 ghost use Rattle.stencil_words.specs.Options.{are_apart, texts};
 ghost use Rattle.stencil_words.specs.Words.{around_of, change_in, grid_source, if_given, made_source, number_given};
 ghost use Rattle.stencil_words.specs.Words.{number_in, or_default, plan_words, reading_of_values, signed_in, size_in};
-ghost use Rattle.stencil_words.specs.Words.{size_of, source_of, stencil_reading, with_source};
+ghost use Rattle.stencil_words.specs.Words.{size_of, source_of, stencil_reading, tiles_given, tiles_in, tiles_of};
+ghost use Rattle.stencil_words.specs.Words.{with_source};
 
 use crate::command::matches;
 use crate::options::are_options;
-use crate::{FileName, MAX_STEPS, PlanWords, Size, Source, StencilWords};
+use crate::{FileName, MAX_STEPS, PlanWords, Size, Source, StencilWords, TileWords};
 use cell_lanes::MAX_CHANGE;
 use clap::ArgMatches;
 use halo_message::shares_few;
@@ -159,6 +160,8 @@ fn are_apart(matches: &ArgMatches<'_>) -> bool
     ensures { result ≡ are_apart (given_in matches.now) }
 {
     !are_given(matches, "grid", "make")
+        && !are_given(matches, "tiles", "ranks")
+        && !are_given(matches, "tiles", "until")
 }
 
 /// Where the grid comes from: `--grid` or `--make`.
@@ -196,6 +199,40 @@ fn plan_words(matches: &ArgMatches<'_>) -> Option<PlanWords>
     })
 }
 
+/// As many rows of tiles and columns of tiles, where there are at most 64 tiles.
+#[tactic(auto, unfolding(crate::specs::Words::tiles_in))]
+fn tiles_in(rows: &[u8], cols: &[u8]) -> Option<TileWords>
+    ensures { result ≡ tiles_in rows.now cols.now }
+{
+    let rows = number_in(1, MAX_RANKS, rows)?;
+    let cols = number_in(1, MAX_RANKS, cols)?;
+    if rows * cols > MAX_RANKS {
+        return None;
+    }
+    Some(TileWords { rows, cols })
+}
+
+/// The tiles in a value of `--tiles`, A,B.
+fn tiles_of(alloc: Global, text: &str) -> Result<Option<TileWords>, AllocError>
+    ensures { IfOk result (λ tiles. tiles ≡ tiles_of text.now) }
+{
+    let parts = parts(alloc, text)?;
+    match parts.as_slice() {
+        [rows, cols] => Ok(tiles_in(rows, cols)),
+        _ => Ok(None),
+    }
+}
+
+/// The tiles that `--tiles` asks for, where it is given.
+fn tiles(alloc: Global, matches: &ArgMatches<'_>) -> Result<Option<Option<TileWords>>, AllocError>
+    ensures { IfOk result (λ tiles. tiles ≡ tiles_given (given_in matches.now)) }
+{
+    match matches.get_str("tiles") {
+        Some(text) => Ok(tiles_of(alloc, text)?.map(Some)),
+        None => Ok(Some(None)),
+    }
+}
+
 /// How much a cell may change at most, as a value of `--until` says.
 #[tactic(auto, unfolding(crate::specs::Words::change_in, crate::specs::Words::number_in))]
 fn change_in(text: &[u8]) -> Option<i64>
@@ -218,10 +255,14 @@ fn until_of(matches: &ArgMatches<'_>) -> Option<Option<i64>>
     }
 }
 
-/// What the options say beside where the grid comes from.
+/// What the options say beside where the grid comes from and what tiles share it.
 #[tactic(auto, unfolding(crate::specs::Words::with_source))]
-fn with_source(matches: &ArgMatches<'_>, source: Source) -> Option<StencilWords>
-    ensures { result ≡ with_source (given_in matches.now) source }
+fn with_source(
+    matches: &ArgMatches<'_>,
+    source: Source,
+    tiles: Option<TileWords>,
+) -> Option<StencilWords>
+    ensures { result ≡ with_source (given_in matches.now) source tiles }
 {
     let steps = number_or(matches, "steps", 0, MAX_STEPS, 1)?;
     let plan = plan_words(matches)?;
@@ -233,6 +274,7 @@ fn with_source(matches: &ArgMatches<'_>, source: Source) -> Option<StencilWords>
         source,
         steps,
         plan,
+        tiles,
         div,
         edge,
         around,
@@ -251,7 +293,10 @@ fn read_matches(alloc: Global, matches: &ArgMatches<'_>) -> Result<Option<Stenci
     let Some(source) = source(alloc, matches)? else {
         return Ok(None);
     };
-    Ok(with_source(matches, source))
+    let Some(tiles) = tiles(alloc, matches)? else {
+        return Ok(None);
+    };
+    Ok(with_source(matches, source, tiles))
 }
 
 /// The reading of the words of a command line, of which the first is the command; there is none where the command
@@ -268,6 +313,9 @@ fn read_matches(alloc: Global, matches: &ArgMatches<'_>) -> Result<Option<Stenci
 ///
 /// `ranks` is 1 to 64, `send-parts` and `recv-parts` are 1 to 1,024 each with a least common multiple of at most 8,192,
 /// `grain` is 1 to 16,777,216 and `depth` 1 to 4; each is 1 where it isn't given.
+///
+/// `tiles` is A,B with no spaces, each at least 1 and their product at most 64. It isn't given with `ranks`, nor with
+/// `until`, and may be left out.
 pub fn read_words(alloc: Global, words: &[String]) -> Result<Option<StencilWords>, AllocError>
     ensures reading { IfOk result (λ reading. reading ≡ stencil_reading (texts words.now)) }
     ensures limits { IfOk result (λ reading. IfSome reading IsRead) }

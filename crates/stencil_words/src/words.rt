@@ -36,7 +36,7 @@ pub enum Source {
     },
 }
 
-/// How ranks share the rows of the grid, and how the messages between them are cut.
+/// How ranks share the rows of the grid, and how the messages between them, or between tiles, are cut.
 #[derive(Clone, Copy)]
 pub struct PlanWords {
     /// How many ranks there are, from 1 to 64.
@@ -52,6 +52,15 @@ pub struct PlanWords {
     pub depth: u32,
 }
 
+/// How many tiles share the grid, in rows and columns of tiles.
+#[derive(Clone, Copy)]
+pub struct TileWords {
+    /// How many rows of tiles there are, at least 1.
+    pub rows: u32,
+    /// How many columns of tiles there are, at least 1; there are at most 64 tiles.
+    pub cols: u32,
+}
+
 /// What the words of `stencil` ask for.
 #[derive(Drop)]
 pub struct StencilWords {
@@ -59,8 +68,10 @@ pub struct StencilWords {
     pub source: Source,
     /// How many steps there are, from 0 to 10,000.
     pub steps: u32,
-    /// How ranks share the grid.
+    /// How ranks share the grid, and with `tiles` what the messages between tiles are like.
     pub plan: PlanWords,
+    /// The tiles that share the grid in place of ranks; with them there is one rank, and no `until`.
+    pub tiles: Option<TileWords>,
     /// What a weighted sum is divided by, from 1 to 1,000,000.
     pub div: u32,
     /// The value outside the grid, from -10^12 to 10^12.
