@@ -13,7 +13,7 @@ use Rattle.stencil_top.specs.declared.note.TextName.{TextName}
 use Rattle.stencil_top.specs.declared.note.TextName.TheVariants as text
 use Rattle.stencil_top.specs.declared.reading.Inputs.{Inputs}
 use Rattle.stencil_top.specs.declared.note.Note.{Note}
-use Rattle.stencil_top.specs.declared.note.Note.TheVariants.{Usage, TooLong, BadScript, BadList, BadText, TooManyRanks, CannotRead, CannotWrite, OutOfMemory}
+use Rattle.stencil_top.specs.declared.note.Note.TheVariants.{Usage, TooLong, BadScript, BadList, BadText, TooManyRanks, TooManyTiles, CannotRead, CannotWrite, OutOfMemory}
 use Rattle.stencil_top.proofs.Texts.{not_true, texts_of, is_found, read_short, fails, made_comes}
 
 -- the note of a cause, where what was wanted came to that cause
@@ -38,6 +38,7 @@ none_given command files before now wanted IsOutput to (BadScript fault) f = is_
 none_given command files before now wanted IsOutput to (BadList fault) f = is_noted command files before now wanted IsOutput _ to f (BadList fault) f.comes
 none_given command files before now wanted IsOutput to (BadText w fault) f = is_noted command files before now wanted IsOutput _ to f (BadText w fault) f.comes
 none_given command files before now wanted IsOutput to (TooManyRanks n m) f = is_noted command files before now wanted IsOutput _ to f (TooManyRanks n m) f.comes
+none_given command files before now wanted IsOutput to (TooManyTiles a b n m) f = is_noted command files before now wanted IsOutput _ to f (TooManyTiles a b n m) f.comes
 none_given command files before now wanted IsOutput to (CannotRead w) f =
     (f.comes.0, λ calm. is_noted command files before now wanted IsOutput _ to f (CannotRead w) (f.comes.1 calm))
 none_given command files before now wanted IsOutput to CannotWrite f = absurd f.comes

@@ -1,6 +1,6 @@
 -- Words that are the same but for their plan have one outcome: both begin with the same grid and weights, and then have
 -- the same rule, where neither plan is refused.
-use Rattle.std.proofs.Common.{◌≡◌, ℕ, zero, suc, ◌+◌, ◌-◌, ◌*◌, ◌/◌, ◌%◌, ℤ, pos, ◌<ℤ◌, ◌≤ℤ◌, Bool, true, false, List, map, Option, Some, None, Result, Ok, Err, refl, sym, ap, ◌∙◌, subst}
+use Rattle.std.proofs.Common.{◌≡◌, ℕ, zero, suc, ◌+◌, ◌-◌, ◌*◌, ◌/◌, ◌%◌, ℤ, pos, ◌<ℤ◌, ◌≤ℤ◌, Bool, true, false, ◌||◌, inl, inr, List, map, Option, Some, None, Result, Ok, Err, refl, sym, ap, ◌∙◌, subst}
 use Rattle.std.specs.Prelude.{if◌then◌else◌, int_div, ◌-ℤ◌, ◌*ℤ◌}
 use Rattle.std.specs.List.{range_with_len}
 use Rattle.stencil_def.specs.Plane.{Plane}
@@ -10,13 +10,19 @@ use Rattle.stencil_def.specs.declared.rule.Around.{Around}
 use Rattle.stencil_def.specs.declared.rule.Rule.{Rule}
 use Rattle.cell_lanes.specs.Change.{change, step_change}
 use Rattle.cell_lanes.proofs.StopFacts.{stop-one}
+use Rattle.halo_plan.specs.Plan.{Plan}
 use Rattle.halo_plan.specs.Making.{needs_more}
+use Rattle.grid_tiles.specs.Plan as grid_tiles
+use Rattle.grid_tiles.specs.Making as tile_making
+use Rattle.grid_tiles.specs.declared.plan.TileFault.TheVariants as tile_fault
 use Rattle.stencil_words.specs.declared.words.StencilWords.{StencilWords}
-use Rattle.stencil_top.specs.Outcome.{EndsWith, IsLastStep, IsRuleOf, IsStencilOutput, Outcome, answered, ◌>>=◌, inputs_of, plan_of, planned, printed}
+use Rattle.stencil_words.specs.declared.words.TileWords.{TileWords}
+use Rattle.stencil_top.specs.Outcome.{EndsWith, IsLastStep, IsRuleOf, IsStencilOutput, Outcome, answered, ◌>>=◌, inputs_of, or_bad_tiles, planned, printed, rank_plan, shared_by, tile_plan}
 use Rattle.stencil_top.specs.Plans.{IsPlanRefused, PlansLeaveOutcomes}
 use Rattle.stencil_top.specs.declared.note.Note.{Note}
 use Rattle.stencil_top.specs.declared.note.Note.TheVariants.{TooManyRanks}
 use Rattle.stencil_top.specs.declared.reading.Inputs.{Inputs}
+use Rattle.stencil_top.specs.declared.stencil.Sharing.TheVariants.{Ranks, Tiles}
 
 -- rules with the same numbers
 record IsSameRule (r s : Rule) : Type 0 where
@@ -88,8 +94,9 @@ one_output w inputs x y a b =
     ∙ sym b.output_is
 
 -- the output doesn't speak of the plan
-other_plan : (w : StencilWords) (plan : _) (inputs : Inputs) (x : List ℕ) → IsStencilOutput (record w { plan = plan }) inputs x → IsStencilOutput w inputs x
-other_plan w plan inputs x a = record {
+other_plan : (w : StencilWords) (plan : _) (tiles : _) (inputs : Inputs) (x : List ℕ) → IsStencilOutput (record w { plan = plan; tiles = tiles }) inputs x
+    → IsStencilOutput w inputs x
+other_plan w plan tiles inputs x a = record {
   rule = a.rule;
   rule_is = record {
     weights_are = a.rule_is.weights_are;
@@ -103,27 +110,41 @@ other_plan w plan inputs x a = record {
 }
 
 -- what was begun with, once the plan isn't refused
-unrefused : (w : StencilWords) (inputs : Inputs) (end : Outcome) → EndsWith (planned w inputs) (IsStencilOutput w) end → ¬ IsPlanRefused end
-    → EndsWith (Ok inputs) (IsStencilOutput w) end
-unrefused w inputs end ends not_refused = by (needs_more inputs.grid.rows w.plan.ranks inputs.weights.reach) ends
+unrefused : (w : StencilWords) (inputs : Inputs) (tiles : Option TileWords) (end : Outcome)
+    → EndsWith (shared_by w inputs tiles >>= (λ sharing. Ok inputs)) (IsStencilOutput w) end → ¬ IsPlanRefused end → EndsWith (Ok inputs) (IsStencilOutput w) end
+unrefused w inputs None end ends not_refused = by (needs_more p.rows p.ranks p.reach) ends
   where
+    p : Plan
+    p = rank_plan w inputs
+
     by : (b : Bool)
-        → EndsWith ((if b then Err (TooManyRanks w.plan.ranks inputs.grid.rows) else Ok (plan_of w inputs)) >>= (λ plan. Ok inputs)) (IsStencilOutput w) end
+        → EndsWith (((if b then Err (TooManyRanks p.ranks p.rows) else Ok p) >>= (λ plan. Ok (Ranks plan))) >>= (λ sharing. Ok inputs)) (IsStencilOutput w) end
         → EndsWith (Ok inputs) (IsStencilOutput w) end
-    by true e = absurd (not_refused (w.plan.ranks, inputs.grid.rows, e))
+    by true e = absurd (not_refused (inl (p.ranks, p.rows, e)))
+    by false e = e
+unrefused w inputs (Some tiles) end ends not_refused =
+    by (tile_making.needs_more p.rows p.tile_rows p.shape.reach || tile_making.needs_more p.cols p.tile_cols p.shape.reach) ends
+  where
+    p : grid_tiles.Plan
+    p = tile_plan w inputs tiles
+
+    by : (b : Bool)
+        → EndsWith ((or_bad_tiles (if b then Err (tile_fault.TooManyTiles p.tile_rows p.tile_cols p.rows p.cols) else Ok p)
+        >>= (λ plan. Ok (Tiles plan))) >>= (λ sharing. Ok inputs)) (IsStencilOutput w) end → EndsWith (Ok inputs) (IsStencilOutput w) end
+    by true e = absurd (not_refused (inr (p.tile_rows, p.tile_cols, p.rows, p.cols, e)))
     by false e = e
 
-one_outcome : (w : StencilWords) (plan : _) (r : Result Inputs Note) (end end' : Outcome)
+one_outcome : (w : StencilWords) (plan : _) (tiles : _) (r : Result Inputs Note) (end end' : Outcome)
     → EndsWith (r >>= planned w) (IsStencilOutput w) end
-    → EndsWith (r >>= planned (record w { plan = plan })) (IsStencilOutput (record w { plan = plan })) end'
+    → EndsWith (r >>= planned (record w { plan = plan; tiles = tiles })) (IsStencilOutput (record w { plan = plan; tiles = tiles })) end'
     → ¬ IsPlanRefused end → ¬ IsPlanRefused end' → end ≡ end'
-one_outcome w plan (Err cause) end end' a b fits fits' = a ∙ sym b
-one_outcome w plan (Ok inputs) end end' a b fits fits' =
-    let x = unrefused w inputs end a fits in
-    let y = unrefused (record w { plan = plan }) inputs end' b fits' in
-    x.2 ∙ ap answered (one_output w inputs x.0 y.0 x.1 (other_plan w plan inputs y.0 y.1)) ∙ sym y.2
+one_outcome w plan tiles (Err cause) end end' a b fits fits' = a ∙ sym b
+one_outcome w plan tiles (Ok inputs) end end' a b fits fits' =
+    let x = unrefused w inputs w.tiles end a fits in
+    let y = unrefused (record w { plan = plan; tiles = tiles }) inputs tiles end' b fits' in
+    x.2 ∙ ap answered (one_output w inputs x.0 y.0 x.1 (other_plan w plan tiles inputs y.0 y.1)) ∙ sym y.2
 
 pub plans_leave_outcomes : PlansLeaveOutcomes
 plans_leave_outcomes w v files end end' same a b fits fits' =
-    one_outcome w v.plan (inputs_of w.source files) end end' a
+    one_outcome w v.plan v.tiles (inputs_of w.source files) end end' a
     (subst (λ (u : StencilWords). EndsWith (inputs_of u.source files >>= planned u) (IsStencilOutput u) end') (sym same) b) fits fits'

@@ -12,7 +12,7 @@ use Rattle.stencil_top.specs.Steps.{FindsText, ReadsFile, Makes, Comes}
 use Rattle.stencil_top.specs.declared.note.TextName.{TextName}
 use Rattle.stencil_top.specs.declared.note.TextName.TheVariants as text
 use Rattle.stencil_top.specs.declared.note.Note.{Note}
-use Rattle.stencil_top.specs.declared.note.Note.TheVariants.{Usage, TooLong, BadScript, BadList, BadText, TooManyRanks, CannotRead, CannotWrite, OutOfMemory}
+use Rattle.stencil_top.specs.declared.note.Note.TheVariants.{Usage, TooLong, BadScript, BadList, BadText, TooManyRanks, TooManyTiles, CannotRead, CannotWrite, OutOfMemory}
 
 -- a test doesn't fail and hold
 pub not_true : false ≡ true → ⊥
@@ -100,6 +100,7 @@ fails needs files before now which name found (BadScript fault) wanted needed he
 fails needs files before now which name found (BadList fault) wanted needed held first finds = absurd finds
 fails needs files before now which name found (BadText w fault) wanted needed held first finds = absurd finds
 fails needs files before now which name found (TooManyRanks n m) wanted needed held first finds = absurd finds
+fails needs files before now which name found (TooManyTiles a b n m) wanted needed held first finds = absurd finds
 fails needs files before now which name found (CannotRead w) wanted needed held first finds =
     (is_unread needs files before now which w name found needed held finds.0 finds.1, unread before now which w files found wanted first finds.0 finds.1)
 fails needs files before now which name found CannotWrite wanted needed held first finds = absurd finds
@@ -115,6 +116,7 @@ made_comes needs files before now wanted made (Err (BadScript fault)) e makes = 
 made_comes needs files before now wanted made (Err (BadList fault)) e makes = e ∙ makes
 made_comes needs files before now wanted made (Err (BadText w fault)) e makes = e ∙ makes
 made_comes needs files before now wanted made (Err (TooManyRanks n m)) e makes = e ∙ makes
+made_comes needs files before now wanted made (Err (TooManyTiles a b n m)) e makes = e ∙ makes
 made_comes needs files before now wanted made (Err (CannotRead w)) e makes = absurd makes
 made_comes needs files before now wanted made (Err CannotWrite) e makes = absurd makes
 made_comes needs files before now wanted made (Err OutOfMemory) e makes = tt

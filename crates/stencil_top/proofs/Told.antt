@@ -11,7 +11,7 @@ use Rattle.stencil_top.specs.Note.{status_of, note_text, Notes}
 use Rattle.stencil_top.specs.Outcome.{Outcome, Ends, EndsWith, IsStencilOutput, IsCheckOutput, noted, texts_in, begun, list_to_check, script_output}
 use Rattle.stencil_top.specs.Run.{Files, Explains, IsNoted, IsCause, EndsAsTold, NeedsNone}
 use Rattle.stencil_top.specs.declared.note.Note.{Note}
-use Rattle.stencil_top.specs.declared.note.Note.TheVariants.{Usage, TooLong, BadScript, BadList, BadText, TooManyRanks, CannotRead, CannotWrite, OutOfMemory}
+use Rattle.stencil_top.specs.declared.note.Note.TheVariants.{Usage, TooLong, BadScript, BadList, BadText, TooManyRanks, TooManyTiles, CannotRead, CannotWrite, OutOfMemory}
 use Rattle.stencil_top.specs.declared.status.Status.{Status}
 use Rattle.stencil_top.specs.declared.status.Status.TheVariants.{Done, NoMemory}
 use Rattle.stencil_top.proofs.Texts.{not_true}
@@ -38,6 +38,7 @@ never_done (BadList _) is = cc
 never_done (BadText w text_fault.NoMemory) is = cc
 never_done (BadText w _) is = cc
 never_done (TooManyRanks n m) is = cc
+never_done (TooManyTiles a b n m) is = cc
 never_done (CannotRead w) is = cc
 never_done CannotWrite is = cc
 never_done OutOfMemory is = cc
@@ -115,6 +116,8 @@ told_cause command held W (BadText w fault) status out out' line line' b n b' n'
     inr (noted_as_told command held (BadText w fault) status out out' line line' b n status_is (nothing (λ w. no_write (write w))) notes is)
 told_cause command held W (TooManyRanks n m) status out out' line line' b n' b' n'' status_is is write nothing notes no_read no_write =
     inr (noted_as_told command held (TooManyRanks n m) status out out' line line' b n' status_is (nothing (λ w. no_write (write w))) notes is)
+told_cause command held W (TooManyTiles a c n m) status out out' line line' b n' b' n'' status_is is write nothing notes no_read no_write =
+    inr (noted_as_told command held (TooManyTiles a c n m) status out out' line line' b n' status_is (nothing (λ w. no_write (write w))) notes is)
 told_cause command held W (CannotRead w) status out out' line line' b n b' n' status_is is write nothing notes no_read no_write =
     inr (noted_as_told command held (CannotRead w) status out out' line line' b n status_is (nothing (λ w. no_write (write w))) notes (is.1 no_read))
 told_cause command held W CannotWrite status out out' line line' b n b' n' status_is is write nothing notes no_read no_write = absurd (no_write (write refl))
@@ -156,6 +159,7 @@ cause_alone command files (BadScript fault) before now none is = explained_alone
 cause_alone command files (BadList fault) before now none is = explained_alone command files (λ end. end ≡ noted (BadList fault)) none is
 cause_alone command files (BadText w fault) before now none is = explained_alone command files (λ end. end ≡ noted (BadText w fault)) none is
 cause_alone command files (TooManyRanks n m) before now none is = explained_alone command files (λ end. end ≡ noted (TooManyRanks n m)) none is
+cause_alone command files (TooManyTiles a b n m) before now none is = explained_alone command files (λ end. end ≡ noted (TooManyTiles a b n m)) none is
 cause_alone command files (CannotRead w) before now none is =
     let needed : file_of command w ≡ Some is.0.file = is.0.needed in
     let unneeded : file_of command w ≡ None = none w in

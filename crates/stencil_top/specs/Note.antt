@@ -14,8 +14,9 @@ use Rattle.stencil_top.specs.declared.status.Status.TheVariants as status
 use Rattle.stencil_top.specs.declared.note.TextName.{TextName}
 use Rattle.stencil_top.specs.declared.note.TextName.TheVariants as text
 use Rattle.stencil_top.specs.declared.note.Note.{Note}
-use Rattle.stencil_top.specs.declared.note.Note.TheVariants.{Usage, TooLong, BadScript, BadText, TooManyRanks}
-use Rattle.stencil_top.specs.declared.note.Note.TheVariants.{CannotRead, CannotWrite, OutOfMemory, BadList}
+use Rattle.stencil_top.specs.declared.note.Note.TheVariants.{Usage, TooLong, BadScript, BadList, BadText}
+use Rattle.stencil_top.specs.declared.note.Note.TheVariants.{TooManyRanks, TooManyTiles, CannotRead, CannotWrite}
+use Rattle.stencil_top.specs.declared.note.Note.TheVariants.{OutOfMemory}
 
 -- the status of a run that ends for this cause
 abbrev pub status_of : Note → Status
@@ -28,6 +29,7 @@ status_of (BadList _) = status.Refused
 status_of (BadText _ text_fault.NoMemory) = status.NoMemory
 status_of (BadText _ _) = status.Refused
 status_of (TooManyRanks _ _) = status.Refused
+status_of (TooManyTiles _ _ _ _) = status.Refused
 status_of (CannotRead _) = status.ReadFault
 status_of CannotWrite = status.WriteFault
 status_of OutOfMemory = status.NoMemory
@@ -84,6 +86,11 @@ abbrev pub plan_message : ℕ → ℕ → List ℕ
 plan_message ranks rows =
     codes "partstencil: plan: " ++ decimal ranks ++ codes " ranks for " ++ decimal rows ++ codes " rows"
 
+abbrev pub tiles_message : ℕ → ℕ → ℕ → ℕ → List ℕ
+tiles_message tile_rows tile_cols rows cols =
+    codes "partstencil: plan: tiles " ++ decimal tile_rows ++ codes "," ++ decimal tile_cols ++ codes " for " ++
+    decimal rows ++ codes " rows and " ++ decimal cols ++ codes " columns"
+
 -- the words of a note
 unfoldable pub message_of : Note → List ℕ
 message_of Usage = codes "usage: partstencil stencil OPTIONS | partstencil script FILE"
@@ -92,6 +99,7 @@ message_of (BadScript fault) = script_message fault
 message_of (BadList fault) = check_message fault
 message_of (BadText which fault) = text_message which fault
 message_of (TooManyRanks ranks rows) = plan_message ranks rows
+message_of (TooManyTiles tile_rows tile_cols rows cols) = tiles_message tile_rows tile_cols rows cols
 message_of (CannotRead which) = codes "partstencil: cannot read " ++ name_of which
 message_of CannotWrite = codes "partstencil: cannot write"
 message_of OutOfMemory = out_of_memory

@@ -18,8 +18,13 @@ use Rattle.event_check.specs.Output.{IsTold}
 use Rattle.event_check.specs.declared.fault.CheckFault.{CheckFault}
 use Rattle.halo_plan.specs.Plan.{Plan}
 use Rattle.halo_plan.specs.Making.{needs_more}
+use Rattle.grid_tiles.specs.Plan as grid_tiles
+use Rattle.grid_tiles.specs.Making.{plan_answer}
+use Rattle.grid_tiles.specs.declared.plan.TileFault.{TileFault}
+use Rattle.grid_tiles.specs.declared.plan.TileFault.TheVariants as tile_fault
 use Rattle.stencil_words.specs.declared.words.Size.{Size}
 use Rattle.stencil_words.specs.declared.words.StencilWords.{StencilWords}
+use Rattle.stencil_words.specs.declared.words.TileWords.{TileWords}
 use Rattle.stencil_words.specs.declared.words.Source.{Source}
 use Rattle.stencil_words.specs.declared.words.Source.TheVariants.{Grid, Make}
 use Rattle.stencil_top.specs.Words.{Command, Script, Check, Stencil}
@@ -30,8 +35,10 @@ use Rattle.stencil_top.specs.declared.note.TextName.{TextName}
 use Rattle.stencil_top.specs.declared.note.TextName.TheVariants as text
 use Rattle.stencil_top.specs.declared.note.Note.{Note}
 use Rattle.stencil_top.specs.declared.note.Note.TheVariants.{Usage, TooLong, BadScript, BadList, BadText}
-use Rattle.stencil_top.specs.declared.note.Note.TheVariants.{TooManyRanks, CannotRead}
+use Rattle.stencil_top.specs.declared.note.Note.TheVariants.{TooManyRanks, TooManyTiles, CannotRead}
 use Rattle.stencil_top.specs.declared.reading.Inputs.{Inputs}
+use Rattle.stencil_top.specs.declared.stencil.Sharing.{Sharing}
+use Rattle.stencil_top.specs.declared.stencil.Sharing.TheVariants.{Ranks, Tiles}
 
 -- the text of each name, where there is one
 abbrev pub Texts : Type 0
@@ -122,9 +129,9 @@ inputs_of (Make size (Some weights)) files = do
   made_with size weights_text
 inputs_of (Make size None) files = Ok record { grid = made_of size; weights = default_weights }
 
--- how the words' ranks share the grid, whose weights reach so far
-abbrev pub plan_of : StencilWords → Inputs → Plan
-plan_of w inputs = record {
+-- how the words' ranks share the grid, for weights that reach so far
+abbrev pub rank_plan : StencilWords → Inputs → Plan
+rank_plan w inputs = record {
   rows = inputs.grid.rows;
   cols = inputs.grid.cols;
   ranks = w.plan.ranks;
@@ -136,14 +143,48 @@ plan_of w inputs = record {
   around = w.around;
 }
 
+-- how these tiles share it, and what the words say of the messages between them
+abbrev pub tile_plan : StencilWords → Inputs → TileWords → grid_tiles.Plan
+tile_plan w inputs tiles = record {
+  rows = inputs.grid.rows;
+  cols = inputs.grid.cols;
+  tile_rows = tiles.rows;
+  tile_cols = tiles.cols;
+  shape = record {
+    send_parts = w.plan.send_parts;
+    recv_parts = w.plan.recv_parts;
+    grain = w.plan.grain;
+    depth = w.plan.depth;
+    reach = inputs.weights.reach;
+    around = w.around;
+  };
+}
+
 -- a plan that isn't refused; no shape is refused
 abbrev pub or_bad_plan : Plan → Result Plan Note
 or_bad_plan p = if needs_more p.rows p.ranks p.reach then Err (TooManyRanks p.ranks p.rows) else Ok p
 
+abbrev pub or_bad_tiles : Result grid_tiles.Plan TileFault → Result grid_tiles.Plan Note
+or_bad_tiles (Ok p) = Ok p
+or_bad_tiles (Err (tile_fault.TooManyTiles tile_rows tile_cols rows cols)) =
+    Err (TooManyTiles tile_rows tile_cols rows cols)
+
+-- how the grid is shared, where that isn't refused: among ranks, or among the tiles that the words ask for
+abbrev pub shared_by : StencilWords → Inputs → Option TileWords → Result Sharing Note
+shared_by w inputs None = do
+  plan ← or_bad_plan (rank_plan w inputs)
+  Ok (Ranks plan)
+shared_by w inputs (Some tiles) = do
+  plan ← or_bad_tiles (plan_answer (tile_plan w inputs tiles))
+  Ok (Tiles plan)
+
+abbrev pub sharing_of : StencilWords → Inputs → Result Sharing Note
+sharing_of w inputs = shared_by w inputs w.tiles
+
 -- what a stencil begins with, where its plan isn't refused; the plan is made of texts that were read
 abbrev pub planned : StencilWords → Inputs → Result Inputs Note
 planned w inputs = do
-  plan ← or_bad_plan (plan_of w inputs)
+  sharing ← sharing_of w inputs
   Ok inputs
 
 abbrev pub begun : StencilWords → Texts → Result Inputs Note

@@ -9,7 +9,8 @@ use Rattle.stencil_top.specs.declared.status.Status.TheVariants.{Done}
 use Rattle.stencil_top.specs.declared.note.TextName.{TextName}
 use Rattle.stencil_top.specs.declared.note.Note.{Note}
 use Rattle.stencil_top.specs.declared.note.Note.TheVariants.{Usage, TooLong, BadScript, BadList, BadText}
-use Rattle.stencil_top.specs.declared.note.Note.TheVariants.{TooManyRanks, CannotRead, CannotWrite, OutOfMemory}
+use Rattle.stencil_top.specs.declared.note.Note.TheVariants.{TooManyRanks, TooManyTiles, CannotRead, CannotWrite}
+use Rattle.stencil_top.specs.declared.note.Note.TheVariants.{OutOfMemory}
 
 -- the files, by name, where they are told
 abbrev pub Files : Type 0
@@ -50,6 +51,8 @@ IsCause (BadScript fault) command files before now = IsNoted (BadScript fault) c
 IsCause (BadList fault) command files before now = IsNoted (BadList fault) command files
 IsCause (BadText which fault) command files before now = IsNoted (BadText which fault) command files
 IsCause (TooManyRanks ranks rows) command files before now = IsNoted (TooManyRanks ranks rows) command files
+IsCause (TooManyTiles tile_rows tile_cols rows cols) command files before now =
+    IsNoted (TooManyTiles tile_rows tile_cols rows cols) command files
 IsCause (CannotRead which) command files before now =
     IsUnread (file_of command) files before now which × (¬ Rose before now → IsNoted (CannotRead which) command files)
 IsCause CannotWrite command files before now = Explains command files (λ end. end.status ≡ Done)

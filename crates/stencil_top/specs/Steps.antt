@@ -3,11 +3,16 @@ use Rattle.std.specs.Prelude.{◌≡◌, ◌⊎◌, ℕ, ◌<◌, ◌≤◌, Lis
 use Rattle.std.specs.Prelude.{IsSome, IsSomeAnd, ⊤}
 use Rattle.std.specs.declared.alloc.Global.{Global}
 use Rattle.part_io.specs.Causes.{Rose}
+use Rattle.stencil_words.specs.declared.words.StencilWords.{StencilWords}
+use Rattle.stencil_words.specs.declared.words.TileWords.{TileWords}
 use Rattle.stencil_top.specs.Words.{Command}
 use Rattle.event_check.specs.Lists.{Listing}
-use Rattle.stencil_top.specs.Outcome.{IsCheckOutput, Texts, answered, limit_of}
+use Rattle.stencil_top.specs.Outcome.{IsCheckOutput, Texts, answered, limit_of, rank_plan, tile_plan}
 use Rattle.stencil_top.specs.Run.{AreIn, Explains, Files, IsCause, IsUnread, Needs}
 use Rattle.stencil_top.specs.declared.note.TextName.{TextName}
+use Rattle.stencil_top.specs.declared.reading.Inputs.{Inputs}
+use Rattle.stencil_top.specs.declared.stencil.Sharing.{Sharing}
+use Rattle.stencil_top.specs.declared.stencil.Sharing.TheVariants.{Ranks, Tiles}
 use Rattle.stencil_top.specs.declared.note.Note.{Note}
 use Rattle.stencil_top.specs.declared.note.Note.TheVariants.{Usage, TooLong, CannotRead, CannotWrite, OutOfMemory}
 
@@ -64,6 +69,11 @@ pub record Finds {A : Type 0} (needs : Needs) (files : Files) (before now : ℕ)
   pub texts : Texts
   pub found : AreIn needs files texts
   pub comes : Comes needs files before now (wanted texts) result
+
+-- a grid is shared as the words ask: among their ranks, or among the tiles that they give
+abbrev pub IsShared : StencilWords → Inputs → Sharing → Type 0
+IsShared w inputs (Ranks plan) = plan ≡ rank_plan w inputs
+IsShared w inputs (Tiles plan) = (tiles : TileWords) × (w.tiles ≡ Some tiles) × (plan ≡ tile_plan w inputs tiles)
 
 -- the output that a command has, or the cause of a run without one
 abbrev pub Gives : Option Command → Files → ℕ → ℕ → Result (Vec ℕ Global) Note → Type 0

@@ -2,7 +2,7 @@
 
 ghost use Rattle.std.specs.Prelude.{◌≡◌, ◌<◌, ◌≤◌, ◌+◌, ◌++◌, length, codes, decimal};
 ghost use Rattle.stencil_top.specs.Note.{status_of, name_of, at_row, at_column, at_line, text_message, script_message};
-ghost use Rattle.stencil_top.specs.Note.{check_message, plan_message};
+ghost use Rattle.stencil_top.specs.Note.{check_message, plan_message, tiles_message};
 ghost use Rattle.stencil_top.specs.Note.{message_of, note_text, Notes};
 
 use crate::status::Status;
@@ -46,7 +46,18 @@ pub enum Note {
     /// The text of a grid or of weights is refused.
     BadText(TextName, TextFault),
     /// There are two ranks or more, and together they need more rows than the grid has.
-    TooManyRanks { ranks: u32, rows: u32 },
+    TooManyRanks {
+        ranks: u32,
+        rows: u32,
+    },
+    /// There are two rows of tiles or more, and together they need more rows than the grid has, or two columns of tiles
+    /// or more, and together they need more columns.
+    TooManyTiles {
+        tile_rows: u32,
+        tile_cols: u32,
+        rows: u32,
+        cols: u32,
+    },
     /// The file could not be read, or isn't there.
     CannotRead(TextName),
     /// The output could not be written, or not all of it.
@@ -70,7 +81,8 @@ impl Note {
             | Note::BadScript(_)
             | Note::BadList(_)
             | Note::BadText(_, _)
-            | Note::TooManyRanks { .. } => Status::Refused,
+            | Note::TooManyRanks { .. }
+            | Note::TooManyTiles { .. } => Status::Refused,
             Note::CannotRead(_) => Status::ReadFault,
             Note::CannotWrite => Status::WriteFault,
         }
@@ -217,6 +229,24 @@ fn plan_line(ranks: u32, rows: u32) -> Line
     line
 }
 
+/// The words of a plan whose tiles are too many.
+fn tiles_line(tile_rows: u32, tile_cols: u32, rows: u32, cols: u32) -> Line
+    ensures words { result.bytes ≡ tiles_message tile_rows tile_cols rows cols }
+    ensures short { length result.bytes < MAX_LINE }
+{
+    let mut line = ArrayString::new();
+    line.push_str("partstencil: plan: tiles ");
+    push_number(&mut line, tile_rows);
+    line.push_str(",");
+    push_number(&mut line, tile_cols);
+    line.push_str(" for ");
+    push_number(&mut line, rows);
+    line.push_str(" rows and ");
+    push_number(&mut line, cols);
+    line.push_str(" columns");
+    line
+}
+
 /// The words of a note about a whole file.
 fn file_line(front: &str, text: TextName, end: &str) -> Line
     requires front { length front.now ≤ 30 }
@@ -244,6 +274,12 @@ fn message(note: Note) -> Line
         Note::BadList(fault) => check_line(fault),
         Note::BadText(text, fault) => text_line(text, fault),
         Note::TooManyRanks { ranks, rows } => plan_line(ranks, rows),
+        Note::TooManyTiles {
+            tile_rows,
+            tile_cols,
+            rows,
+            cols,
+        } => tiles_line(tile_rows, tile_cols, rows, cols),
         Note::CannotRead(text) => file_line("partstencil: cannot read ", text, ""),
         Note::CannotWrite => plain_line("partstencil: cannot write"),
         Note::OutOfMemory => plain_line("partstencil: out of memory"),

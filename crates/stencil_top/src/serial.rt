@@ -16,7 +16,7 @@ ghost use Rattle.stencil_top.specs.Steps.{Gives, KeepsCount, RunsCheck, RunsScri
 use crate::note::{self, Note, TextName};
 use crate::reading::{read_inputs, read_text};
 use crate::status::Status;
-use crate::stencil::{plan_of, stencil_output};
+use crate::stencil::{sharing_of, stencil_output};
 use crate::words::named;
 use event_check::{CheckFault, check_events};
 use part_io::{Shelf, Sink};
@@ -87,8 +87,8 @@ fn stencil<H: Shelf>(alloc: Global, words: &StencilWords, shelf: &mut H) -> Resu
     ensures kept { KeepsCount (H.faults shelf.old) (H.faults shelf.new) result }
 {
     let inputs = read_inputs(alloc, &words.source, shelf)?;
-    let plan = plan_of(words, &inputs)?;
-    match stencil_output(alloc, words, &inputs, plan) {
+    let sharing = sharing_of(words, &inputs)?;
+    match stencil_output(alloc, words, &inputs, sharing) {
         Ok(output) => Ok(output),
         Err(_) => Err(Note::OutOfMemory),
     }
@@ -159,9 +159,9 @@ fn answer<H: Shelf, K: Sink>(
 /// Runs what the words ask for, and gives the status that the run ends with.
 ///
 /// The words are `script FILE`, `check FILE`, or `stencil` and its options. The texts are read from `shelf`: a script;
-/// or a list of events; or the weights, where a file is named, and then the grid. After the texts the plan of the ranks
-/// is tried. The output goes to `out` in one piece, and where the run ends without it a line goes to `note`. `NoMemory`
-/// may be the end of any run.
+/// or a list of events; or the weights, where a file is named, and then the grid. After the texts the plan of the ranks,
+/// or of the tiles, is tried. The output goes to `out` in one piece, and where the run ends without it a line goes to
+/// `note`. `NoMemory` may be the end of any run.
 pub fn run_serial<H: Shelf, K: Sink, N: Sink>(
     alloc: Global,
     words: &Vec<String>,
@@ -211,7 +211,7 @@ pub fn run_serial<H: Shelf, K: Sink, N: Sink>(
         × Notes (N.written note.old) (N.written note.new)
         (N.faults note.old) (N.faults note.new) (note_text cause) }
 
-    // Ranks, partitions, grain and depth have no part in the outcome but by a refusal.
+    // Ranks, tiles, partitions, grain and depth have no part in the outcome but by a refusal.
     ensures plans { PlansLeaveOutcomes }
 
     // No file changes, no count falls, and a count that nothing could raise is as it was.

@@ -9,7 +9,7 @@ pub enum Status {
     Done,
     /// The words are no command line of the program.
     Usage,
-    /// A text is refused, or the plan of ranks.
+    /// A text is refused, or the plan of ranks or of tiles.
     Refused,
     /// A file could not be read.
     ReadFault,

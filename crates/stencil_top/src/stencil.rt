@@ -5,24 +5,37 @@ ghost use Rattle.stencil_def.specs.Plane.{IsPlane};
 ghost use Rattle.stencil_def.specs.Step.{fold_plane};
 ghost use Rattle.cell_lanes.specs.Change.{IsStop};
 ghost use Rattle.rank_task.specs.Ranks.{ranks_after};
-ghost use Rattle.stencil_words.specs.Limits.{IsRead};
+ghost use Rattle.grid_tiles.specs.Making.{plan_answer};
+ghost use Rattle.stencil_words.specs.Limits.{IsRead, IsTileRead};
 ghost use Rattle.stencil_words.specs.declared.words.TheConstants.{MAX_STEPS};
-ghost use Rattle.stencil_top.specs.Outcome.{IsLastStep, IsRuleOf, IsStencilOutput, or_bad_plan, plan_of, printed};
+ghost use Rattle.stencil_top.specs.Outcome.{IsLastStep, IsRuleOf, IsStencilOutput, or_bad_plan, or_bad_tiles, printed};
+ghost use Rattle.stencil_top.specs.Outcome.{rank_plan, sharing_of, tile_plan};
+ghost use Rattle.stencil_top.specs.Steps.{IsShared};
 
 use crate::note::Note;
 use crate::reading::Inputs;
 use cell_lanes::{Stopped, run_lanes, run_until};
 use grid_text::{print_grid, print_summary};
+use grid_tiles::{SerialTiles, TileFault, TilePlan, TileShape};
 use halo_plan::{HaloPlan, PlanFault};
 use rank_task::SerialRanks;
 use std::alloc::{AllocError, Global};
 use stencil_def::{Grid, Rule, Weights};
-use stencil_words::{PlanWords, Source, StencilWords};
+use stencil_words::{PlanWords, Source, StencilWords, TileWords};
+
+/// How a grid is shared.
+#[derive(Drop)]
+pub(crate) enum Sharing {
+    /// Its rows among ranks.
+    Ranks(HaloPlan),
+    /// Its rows and columns among tiles.
+    Tiles(TilePlan),
+}
 
 /// The plan of the words' ranks over a grid, for weights that reach so far.
-pub(crate) fn plan_of(words: &StencilWords, inputs: &Inputs) -> Result<HaloPlan, Note>
+fn rank_plan(words: &StencilWords, inputs: &Inputs) -> Result<HaloPlan, Note>
     requires { IsRead words.now }
-    ensures { result ≡ or_bad_plan (plan_of words.now inputs.now) }
+    ensures { result ≡ or_bad_plan (rank_plan words.now inputs.now) }
 {
     let rows = inputs.grid.rows();
     let cols = inputs.grid.cols();
@@ -48,6 +61,53 @@ pub(crate) fn plan_of(words: &StencilWords, inputs: &Inputs) -> Result<HaloPlan,
         Ok(plan) => Ok(plan),
         Err(PlanFault::TooManyRanks { ranks, rows }) => Err(Note::TooManyRanks { ranks, rows }),
         Err(PlanFault::Shape(_)) => unreachable!(),
+    }
+}
+
+/// The plan of these tiles over a grid, for weights that reach so far.
+fn tile_plan(words: &StencilWords, inputs: &Inputs, tiles: TileWords) -> Result<TilePlan, Note>
+    requires words { IsRead words.now }
+    requires tiles { IsTileRead tiles }
+    ensures { result ≡ or_bad_tiles (plan_answer (tile_plan words.now inputs.now tiles)) }
+{
+    let rows = inputs.grid.rows();
+    let cols = inputs.grid.cols();
+    let shape = TileShape {
+        send_parts: words.plan.send_parts,
+        recv_parts: words.plan.recv_parts,
+        grain: words.plan.grain,
+        depth: words.plan.depth,
+        reach: inputs.weights.reach(),
+        around: words.around,
+    };
+    match TilePlan::new(rows, cols, tiles.rows, tiles.cols, shape) {
+        Ok(plan) => Ok(plan),
+        Err(
+            TileFault::TooManyTiles {
+                tile_rows,
+                tile_cols,
+                rows,
+                cols,
+            },
+        ) => Err(Note::TooManyTiles {
+            tile_rows,
+            tile_cols,
+            rows,
+            cols,
+        }),
+    }
+}
+
+/// How the words ask for a grid to be shared, for weights that reach so far: among tiles where they are given, and else
+/// among ranks.
+pub(crate) fn sharing_of(words: &StencilWords, inputs: &Inputs) -> Result<Sharing, Note>
+    requires { IsRead words.now }
+    ensures answer { result ≡ sharing_of words.now inputs.now }
+    ensures plan { IfOk result (λ sharing. IsShared words.now inputs.now sharing) }
+{
+    match words.tiles {
+        Some(tiles) => Ok(Sharing::Tiles(tile_plan(words, inputs, tiles)?)),
+        None => Ok(Sharing::Ranks(rank_plan(words, inputs)?)),
     }
 }
 
@@ -119,7 +179,7 @@ fn run_ranks(ranks: &mut SerialRanks, steps: u32, until: Option<i64>) -> u32
 
 /// The grid after the last step of the rule, which the ranks of the plan make together where there are several, and how
 /// many steps were made.
-fn run(
+fn run_in_ranks(
     alloc: Global,
     plan: HaloPlan,
     grid: &Grid,
@@ -145,6 +205,55 @@ fn run(
     Ok(Stopped { grid, steps: made })
 }
 
+/// The grid after so many steps of the rule, which the tiles of the plan make together where there are several.
+fn run_in_tiles(
+    alloc: Global,
+    plan: TilePlan,
+    grid: &Grid,
+    rule: Rule,
+    steps: u32,
+) -> Result<Stopped, AllocError>
+    requires rows { grid.now.rows ≡ plan.rows }
+    requires cols { grid.now.cols ≡ plan.cols }
+    requires reach { rule.weights.reach ≡ plan.shape.reach }
+    requires around { rule.around ≡ plan.shape.around }
+    requires steps { steps ≤ MAX_STEPS }
+    ensures last { IfOk result (λ stopped. stopped.steps ≡ steps) }
+    ensures fold { IfOk result (λ stopped. stopped.grid ≡ fold_plane grid.now rule stopped.steps) }
+    ensures limits { IfOk result (λ stopped. IsPlane stopped.grid) }
+{
+    if plan.tile_count() == 1 {
+        return run_alone(alloc, grid, &rule, steps, None);
+    }
+    let mut tiles = SerialTiles::new(alloc, plan, grid, rule)?;
+    tiles.run(steps);
+    let grid = tiles.gather(alloc)?;
+    Ok(Stopped { grid, steps })
+}
+
+/// The grid after the last step of the rule, which all that share the grid make together, and how many steps were made.
+fn run(
+    alloc: Global,
+    words: &StencilWords,
+    inputs: &Inputs,
+    sharing: Sharing,
+    rule: Rule,
+) -> Result<Stopped, AllocError>
+    requires limits { IsRead words.now }
+    requires sharing { IsShared words.now inputs.now sharing }
+    requires rule { IsRuleOf words.now inputs.now.weights rule }
+    ensures last { IfOk result (λ stopped.
+        IsLastStep inputs.now.grid rule words.now.steps words.now.until stopped.steps) }
+    ensures fold { IfOk result (λ stopped. stopped.grid ≡ fold_plane inputs.now.grid rule stopped.steps) }
+    ensures limits { IfOk result (λ stopped. IsPlane stopped.grid) }
+{
+    let (grid, steps) = (&inputs.grid, words.steps);
+    match sharing {
+        Sharing::Ranks(plan) => run_in_ranks(alloc, plan, grid, rule, steps, words.until),
+        Sharing::Tiles(plan) => run_in_tiles(alloc, plan, grid, rule, steps),
+    }
+}
+
 /// The text of the last grid: that of a grid from a file is the grid, and that of a made one is the summary.
 fn print(alloc: Global, source: &Source, steps: u32, last: &Grid) -> Result<Vec<u8>, AllocError>
     ensures { IfOk result (λ text. text.items ≡ printed source.now steps last.now) }
@@ -155,18 +264,18 @@ fn print(alloc: Global, source: &Source, steps: u32, last: &Grid) -> Result<Vec<
     }
 }
 
-/// The output of a stencil over the ranks of the words' plan.
+/// The output of a stencil whose grid is shared as the words ask.
 pub(crate) fn stencil_output(
     alloc: Global,
     words: &StencilWords,
     inputs: &Inputs,
-    plan: HaloPlan,
+    sharing: Sharing,
 ) -> Result<Vec<u8>, AllocError>
     requires limits { IsRead words.now }
-    requires plan { plan ≡ plan_of words.now inputs.now }
+    requires sharing { IsShared words.now inputs.now sharing }
     ensures { IfOk result (λ text. IsStencilOutput words.now inputs.now text.items) }
 {
     let rule = rule_of(words, inputs.weights);
-    let last = run(alloc, plan, &inputs.grid, rule, words.steps, words.until)?;
+    let last = run(alloc, words, inputs, sharing, rule)?;
     print(alloc, &words.source, last.steps, &last.grid)
 }

@@ -308,8 +308,8 @@ fn read_matches(alloc: Global, matches: &ArgMatches<'_>) -> Result<Option<Stenci
 ///
 /// `grid` and `weights` name files. `make` is SEED,ROWS,COLS, with no spaces. Exactly one of `grid` and `make` is
 /// given, and `weights` with `grid`. `steps` is 0 to 10,000, and without it 1; `div` is 1 to 1,000,000, and without it
-/// 1; `edge` is -10^12 to 10^12, and without it 0; `around` is `fixed` or `wrap`, and without it `fixed`; `until`
-/// is 0 to 2 * 10^12, and may be left out.
+/// 1; `edge` is -10^12 to 10^12, and without it 0; `around` is `fixed` or `wrap`, and without it `fixed`; `until` is 0
+/// to 2 * 10^12, and may be left out.
 ///
 /// `ranks` is 1 to 64, `send-parts` and `recv-parts` are 1 to 1,024 each with a least common multiple of at most 8,192,
 /// `grain` is 1 to 16,777,216 and `depth` 1 to 4; each is 1 where it isn't given.
