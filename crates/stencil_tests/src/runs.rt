@@ -4,6 +4,7 @@ ghost use Rattle.std.specs.Prelude.{◌<◌, ◌≤◌};
 
 use part_io::{MemShelf, MemSink};
 use std::alloc::{AllocError, Global};
+use std::process::Abort;
 use std::test::Fail;
 use stencil_top::run_serial;
 
@@ -182,10 +183,10 @@ fn drawn_stencil(
     draw: &mut Draw,
     reach: u32,
     rows: u32,
+    cols: u32,
 ) -> Result<String, AllocError> {
     let file = if reach == 2 { "v.csv" } else { "w.csv" };
     let seed = draw.below(1000);
-    let cols = 1 + draw.below(10);
     let steps = draw.below(7);
     let div = draw.one_of(["1", "8", "9", "30"]);
     let around = draw.one_of(["fixed", "wrap", "wrap", "fixed"]);
@@ -194,33 +195,43 @@ fn drawn_stencil(
     )
 }
 
-/// A plan of drawn numbers.
-fn drawn_plan(alloc: Global, draw: &mut Draw, most: u32) -> Result<String, AllocError> {
-    let ranks = 1 + draw.below(most.clamp(1, 64));
+/// What messages are like, in drawn numbers.
+fn drawn_messages(alloc: Global, draw: &mut Draw) -> Result<String, AllocError> {
     let send = draw.one_of(["1", "2", "3", "8"]);
     let recv = draw.one_of(["1", "2", "5", "12"]);
     let grain = draw.one_of(["1", "8", "20", "1000"]);
     let depth = 1 + draw.below(4);
-    format!(in alloc;
-        "--ranks {ranks} --send-parts {send} --recv-parts {recv} --grain {grain} --depth {depth}"
-    )
+    format!(in alloc; "--send-parts {send} --recv-parts {recv} --grain {grain} --depth {depth}")
+}
+
+/// Compares what a stencil prints alone and over a plan.
+fn compare(rt: &impl Abort, alloc: Global, alone: &str, plan: &str) -> Result<(), Fail> {
+    let whole: (u32, &[u32]) = (200, &[]);
+    let shared = format!(in alloc; "{alone} {plan}")?;
+    let wanted = ended(alloc, alone, &[], whole, &[])?;
+    let got = ended(alloc, &shared, &[], whole, &[])?;
+    assert!(rt; wanted.starts_with("0 "), "{alone}: {wanted}");
+    assert_eq!(rt; got.as_str(), wanted.as_str(), "{shared}");
+    Ok(())
 }
 
 #[test]
-fn ranks_print_what_one_thread_prints(rt: HostRuntime) -> Result<(), Fail> {
+fn plans_print_what_one_thread_prints(rt: HostRuntime) -> Result<(), Fail> {
     let alloc = rt.alloc();
-    let whole: (u32, &[u32]) = (200, &[]);
     let mut draw = Draw { state: 1 };
     for case in 0..80 {
         let reach = 1 + case % 2;
         let rows = reach + draw.below(12);
-        let alone = drawn_stencil(alloc, &mut draw, reach, rows)?;
-        let plan = drawn_plan(alloc, &mut draw, rows / reach)?;
-        let shared = format!(in alloc; "{alone} {plan}")?;
-        let wanted = ended(alloc, &alone, &[], whole, &[])?;
-        let got = ended(alloc, &shared, &[], whole, &[])?;
-        assert!(rt; wanted.starts_with("0 "), "{alone}: {wanted}");
-        assert_eq!(rt; got.as_str(), wanted.as_str(), "{shared}");
+        let cols = reach + draw.below(12);
+        let alone = drawn_stencil(alloc, &mut draw, reach, rows, cols)?;
+        let messages = drawn_messages(alloc, &mut draw)?;
+        let ranks = 1 + draw.below((rows / reach).clamp(1, 64));
+        let tile_rows = 1 + draw.below((rows / reach).clamp(1, 8));
+        let tile_cols = 1 + draw.below((cols / reach).clamp(1, 8));
+        let over_ranks = format!(in alloc; "--ranks {ranks} {messages}")?;
+        let in_tiles = format!(in alloc; "--tiles {tile_rows},{tile_cols} {messages}")?;
+        compare(&rt, alloc, &alone, &over_ranks)?;
+        compare(&rt, alloc, &alone, &in_tiles)?;
     }
     Ok(())
 }
