@@ -159,9 +159,9 @@ fn answer<H: Shelf, K: Sink>(
 /// Runs what the words ask for, and gives the status that the run ends with.
 ///
 /// The words are `script FILE`, `check FILE`, or `stencil` and its options. The texts are read from `shelf`: a script;
-/// or a list of events; or the weights, where a file is named, and then the grid. After the texts the plan of the ranks,
-/// or of the tiles, is tried. The output goes to `out` in one piece, and where the run ends without it a line goes to
-/// `note`. `NoMemory` may be the end of any run.
+/// or a list of events; or the weights, where a file is named, and then the grid. After the texts the plan of the
+/// ranks, or of the tiles, is tried. The output goes to `out` in one piece, and where the run ends without it a line
+/// goes to `note`. `NoMemory` may be the end of any run.
 pub fn run_serial<H: Shelf, K: Sink, N: Sink>(
     alloc: Global,
     words: &Vec<String>,
