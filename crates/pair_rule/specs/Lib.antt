@@ -1,4 +1,5 @@
 pub mod Buf
+pub mod Kept
 pub mod Addresses
 pub mod Views
 pub mod First

@@ -1,16 +1,67 @@
 //! The buffer of a cell.
 
-ghost use Rattle.std.specs.Prelude.{◌≡◌, ◌<◌, length, slice_index};
+ghost use Rattle.std.specs.Prelude.{◌≡◌, ◌+◌, ◌<◌, ◌^◌, length, replicate, slice_index, IfOk};
 ghost use Rattle.pair_rule.specs.Buf.{buf};
+ghost use Rattle.pair_rule.specs.Kept.{kept};
+ghost use Rattle.pair_rule.specs.declared.TheConstants.{FREE_BYTES};
 
+use crate::few::Few;
+use crate::{FREE_BYTES, SHORT};
+use std::alloc::{AllocError, Global};
 use std::marker::Model;
+
+/// Where the bytes of a cell stand: in the buffer itself where they are few, so that they need no cache line of their
+/// own.
+#[derive(Drop)]
+pub(crate) enum Kept {
+    /// In the buffer itself.
+    Short(Few),
+    /// On the heap.
+    Long(Vec<u8>),
+}
+
+impl Kept {
+    /// So many zeros. No two on the heap share a cache line.
+    fn zeros(alloc: Global, count: usize) -> Result<Kept, AllocError>
+        requires { count + FREE_BYTES < 2 ^ 64 }
+        ensures { IfOk result (λ b. kept b ≡ replicate count 0) }
+    {
+        if count <= SHORT {
+            return Ok(Kept::Short(Few::zeros(count)));
+        }
+        let mut bytes = Vec::from_elem(alloc, 0u8, count + FREE_BYTES)?;
+        bytes.truncate(count);
+        Ok(Kept::Long(bytes))
+    }
+
+    #[inline]
+    fn as_slice(&self) -> &[u8]
+        ensures { result.now ≡ kept self.now }
+    {
+        match self {
+            Kept::Short(bytes) => bytes.as_slice(),
+            Kept::Long(bytes) => bytes.as_slice(),
+        }
+    }
+
+    #[inline]
+    fn fill(&mut self, bytes: &[u8])
+        requires { length bytes.now ≡ length (kept self.old) }
+        ensures { kept self.new ≡ bytes.now }
+    {
+        match self {
+            Kept::Short(own) => own.fill(bytes),
+            Kept::Long(own) => own.as_mut_slice().copy_from_slice(bytes),
+        }
+    }
+}
 
 /// The bytes of one cell, with the round that they were put there for. It is made with the pair, one for each cell and
 /// depth place, and its length is the cell's.
 #[derive(Drop)]
 pub struct CellBuf {
     round: u32,
-    bytes: Vec<u8>,
+    bytes: Kept,
 }
 
 impl Model for CellBuf {
@@ -18,15 +69,21 @@ impl Model for CellBuf {
 
     ghost Value = { Buf };
 
-    ghost view = { λ b. record { round = b.round; bytes = b.bytes.items } };
+    ghost use Rattle.pair_rule.specs.Kept.{kept};
+
+    ghost view = { λ b. record { round = b.round; bytes = kept b.bytes } };
 }
 
 impl CellBuf {
-    /// A buffer of round 0 over these bytes.
-    pub(crate) fn of(bytes: Vec<u8>) -> CellBuf
-        ensures { result ≡ buf 0 bytes.items }
+    /// A buffer of round 0 with so many zeros.
+    pub(crate) fn zeros(alloc: Global, count: usize) -> Result<CellBuf, AllocError>
+        requires { count + FREE_BYTES < 2 ^ 64 }
+        ensures { IfOk result (λ b. b ≡ buf 0 (replicate count 0)) }
     {
-        CellBuf { round: 0, bytes }
+        Ok(CellBuf {
+            round: 0,
+            bytes: Kept::zeros(alloc, count)?,
+        })
     }
 
     /// The round that it was filled for, 0 before the first.
@@ -40,7 +97,7 @@ impl CellBuf {
     pub fn len(&self) -> usize
         ensures { result ≡ length self.now.bytes }
     {
-        self.bytes.len()
+        self.bytes.as_slice().len()
     }
 
     /// Byte `i`, from 0 on.
@@ -48,7 +105,7 @@ impl CellBuf {
         requires { i < length self.now.bytes }
         ensures { result ≡ slice_index self.now.bytes i }
     {
-        self.bytes[i]
+        self.bytes.as_slice()[i]
     }
 
     /// All of its bytes, in order.
@@ -64,7 +121,7 @@ impl CellBuf {
         ensures { self.new ≡ buf round bytes.now }
     {
         self.round = round;
-        self.bytes.as_mut_slice().copy_from_slice(bytes);
+        self.bytes.fill(bytes);
     }
 
     /// Copies its bytes out.

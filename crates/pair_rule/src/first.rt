@@ -7,9 +7,9 @@ ghost use Rattle.pair_core.specs.Moves.{part_mask};
 ghost use Rattle.pair_rule.specs.Addresses.{table_size};
 ghost use Rattle.pair_rule.specs.First.{first_in_table, first_table, first_buf, first_bufs, first_in_slot};
 
+use crate::FREE_WORDS;
 use crate::buf::CellBuf;
 use crate::words::{claim_words, slot_row, take_words};
-use crate::{FREE_BYTES, FREE_WORDS};
 use gate_word::pack;
 use part_tables::Tables;
 use std::alloc::{AllocError, Global};
@@ -71,7 +71,7 @@ pub(crate) fn first_table(alloc: Global, tables: &Tables) -> Result<Vec<u64>, Al
     Ok(words)
 }
 
-/// The buffer of cell `c`. No two buffers share a cache line.
+/// The buffer of cell `c`.
 fn cell_buf(alloc: Global, tables: &Tables, c: usize) -> Result<CellBuf, AllocError>
     requires { c < cells tables.now }
     ensures { IfOk result (λ b. b ≡ first_buf tables.now c) }
@@ -80,9 +80,7 @@ fn cell_buf(alloc: Global, tables: &Tables, c: usize) -> Result<CellBuf, AllocEr
     let _geometry = tables.geometry();
     let cell = tables.cell(c);
     let count = (cell.end - cell.start) as usize;
-    let mut bytes = Vec::from_elem(alloc, 0u8, count + FREE_BYTES)?;
-    bytes.truncate(count);
-    Ok(CellBuf::of(bytes))
+    CellBuf::zeros(alloc, count)
 }
 
 /// What slot `n` has.

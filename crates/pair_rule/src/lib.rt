@@ -5,6 +5,7 @@ mod buf;
 mod close;
 mod content;
 mod create;
+mod few;
 mod first;
 mod join;
 mod laws;
@@ -40,5 +41,8 @@ pub(crate) const FREE_WORDS: usize = 16;
 /// How many slots are free behind those of a place. They take two cache lines at least.
 pub(crate) const FREE_SLOTS: usize = 4;
 
-/// How many bytes are free behind those of a buffer: two cache lines.
+/// How many bytes are free behind those of a buffer on the heap: two cache lines.
 pub(crate) const FREE_BYTES: usize = 128;
+
+/// The most bytes of a cell that stand in its buffer itself.
+pub(crate) const SHORT: usize = 23;

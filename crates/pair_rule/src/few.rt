@@ -1,0 +1,55 @@
+//! A few bytes that stand in the value itself.
+
+ghost use Rattle.std.specs.Prelude.{◌≡◌, ◌≤◌, length, replicate};
+ghost use Rattle.pair_rule.specs.declared.TheConstants.{SHORT};
+
+use crate::SHORT;
+use std::marker::Model;
+
+/// At most `SHORT` bytes, in the value itself, which is as long as a vector. Contracts see the bytes.
+#[derive(Drop)]
+pub(crate) struct Few {
+    len: u8,
+    bytes: [u8; SHORT],
+}
+
+impl Model for Few {
+    ghost use Rattle.std.specs.Prelude.{ℕ, ◌≤◌, List, take};
+    ghost use Rattle.pair_rule.specs.declared.TheConstants.{SHORT};
+
+    ghost Value = { List ℕ };
+
+    ghost view = { λ f. take f.len f.bytes };
+
+    ghost invariant = { λ f. f.len ≤ SHORT };
+}
+
+impl Few {
+    /// So many zeros.
+    pub(crate) fn zeros(count: usize) -> Few
+        requires { count ≤ SHORT }
+        ensures { result ≡ replicate count 0 }
+    {
+        Few {
+            len: count as u8,
+            bytes: [0; SHORT],
+        }
+    }
+
+    /// All of them, in order.
+    #[inline]
+    pub(crate) fn as_slice(&self) -> &[u8]
+        ensures { result.now ≡ self.now }
+    {
+        &self.bytes[..self.len as usize]
+    }
+
+    /// Puts as many bytes in as it has.
+    #[inline]
+    pub(crate) fn fill(&mut self, bytes: &[u8])
+        requires { length bytes.now ≡ length self.old }
+        ensures { self.new ≡ bytes.now }
+    {
+        self.bytes[..self.len as usize].copy_from_slice(bytes);
+    }
+}
