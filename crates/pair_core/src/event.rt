@@ -17,7 +17,7 @@
 /// | 11 | the receive side takes a receive partition | `partition` |
 /// | 12 | the receive side gives a receive partition back | `partition` |
 /// | 13 | the receive side releases its round | `round` |
-#[derive(Clone, Copy, Debug, PartialEq, Eq)]
+#[derive(Clone, Copy)]
 pub struct Event {
     /// Who made it: 0 is the send side, 1 the receive side, an even number from 2 on a marker, an odd one from 3 on a
     /// watcher.

@@ -4,7 +4,7 @@ use std::collections::LinkedList;
 
 /// A mark of a send partition, or a take of a receive partition, in a round. `with` is what a layer above keeps of
 /// it; the core reads nothing of it.
-#[derive(Clone, Copy, Debug, PartialEq, Eq)]
+#[derive(Clone, Copy)]
 pub struct Mark<A> {
     /// The round, from 1 on.
     pub round: u32,
@@ -15,7 +15,7 @@ pub struct Mark<A> {
 }
 
 /// A claim that pends: a partition was claimed in a round, and not all of its pieces have it yet.
-#[derive(Debug, Drop)]
+#[derive(Drop)]
 pub struct Pending {
     /// The round.
     pub round: u32,
@@ -27,7 +27,7 @@ pub struct Pending {
 
 /// How far the send side has come in its round. Where `shut` is the number of claim words the side is idle; where
 /// only `opened` is, it is active.
-#[derive(Clone, Copy, Debug, PartialEq, Eq)]
+#[derive(Clone, Copy)]
 pub struct SendSide {
     /// The round, 0 before the first one.
     pub round: u32,
@@ -43,7 +43,7 @@ pub struct SendSide {
 
 /// How far the receive side has come in its round. Where `released` is 1 the side is idle; where it isn't and
 /// `takes` is the number of take words, the side is active.
-#[derive(Clone, Copy, Debug, PartialEq, Eq)]
+#[derive(Clone, Copy)]
 pub struct RecvSide {
     /// The round, 0 before the first one.
     pub round: u32,

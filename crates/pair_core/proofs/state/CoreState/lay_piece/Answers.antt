@@ -12,6 +12,15 @@ use Rattle.pair_core.proofs.StateBecomes.{becomes_quiet, becomes_done}
 use Rattle.pair_core.proofs.StateLay.{some_one, lay_out, lay_still, lay_takes}
 use Rattle.pair_core.proofs.state.CoreState.lay_piece.Goals as goal
 
+pub returns-in_default-clause-becomes : goal.returns-in_default-clause-becomes
+returns-in_default-clause-becomes c = λ core shows.
+    let g = c.args.self.now.tables in let e = c.args.event.now in (
+      reads_8 g core e (λ m. ¬ IsAllowed g core m) c.requires (λ n p i reads allowed.
+          let none = (shows.others_are e.seat c.in_default.ensures.none).new.pending in
+          let some : core.pending e.seat ≡ Some reads.0 = ap core.pending reads.2.by ∙ reads.1 in absurd (cc)),
+      shows,
+    )
+
 pub returns-in_default-lay_of-clause-becomes : goal.returns-in_default-lay_of-clause-becomes
 returns-in_default-lay_of-clause-becomes c = λ core shows.
     let g = c.args.self.now.tables in let e = c.args.event.now in let at = c.in-Some.ensures.some in (

@@ -1,12 +1,21 @@
 use Rattle.std.proofs.Common.{◌<◌, refl, sym, subst, arith}
 use Rattle.part_geometry.specs.Shape.{Shape}
 use Rattle.pair_core.specs.Names.{Claim, claim_words, Fits}
-use Rattle.pair_core.specs.Moves.{LoadClaim}
+use Rattle.pair_core.specs.Moves.{LoadClaim, IsAllowed}
 use Rattle.pair_core.specs.Steps.{enters}
 use Rattle.pair_core.specs.Shows.{Shows}
 use Rattle.pair_core.proofs.StateBecomes.{becomes_quiet}
 use Rattle.pair_core.proofs.StateAdds.{entered_live, view_live}
+use Rattle.pair_core.proofs.StateReads.{reads_3}
 use Rattle.pair_core.proofs.state.CoreState.load_claim.Goals as goal
+
+pub returns-then-c-claim_words-clause-becomes : goal.returns-then-c-claim_words-clause-becomes
+returns-then-c-claim_words-clause-becomes c = λ core shows.
+    let g = c.args.self.now.tables in let e = c.args.event.now in (
+      reads_3 g core e (λ m. ¬ IsAllowed g core m) c.requires (λ n b reads allowed.
+          let high = c.if-c-claim_words.true in let on = reads.on in let low = allowed.1 in omega (arith, c.claim_words.ensures.value)),
+      shows,
+    )
 
 pub returns-clause-becomes : goal.returns-clause-becomes
 returns-clause-becomes c = λ core shows.

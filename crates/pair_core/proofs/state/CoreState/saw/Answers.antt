@@ -43,3 +43,13 @@ returns-clause-shows c = λ core n x shows there fits at.
       others_are = all.others;
       takes_are = shows.takes_are;
     }
+
+pub saw-requires-clause-seen : goal.saw-requires-clause-seen
+saw-requires-clause-seen c =
+    let s = c.args.self.now in let old = c.index_mut.result.now in
+    let size = s.kept.seen c.args.at old (read_seat s.seats.items c.args.at old c.requires.at c.index_mut.ensures.value) in omega (arith, c.requires.index)
+
+pub saw-requires-clause-looks : goal.saw-requires-clause-looks
+saw-requires-clause-looks c =
+    let s = c.args.self.now in let old = c.index_mut.result.now in
+    let size = s.kept.looks c.args.at old (read_seat s.seats.items c.args.at old c.requires.at c.index_mut.ensures.value) in omega (arith, c.requires.index)

@@ -1,12 +1,35 @@
-use Rattle.std.proofs.Common.{refl, ◌==◌, arith}
-use Rattle.pair_core.specs.Names.{Claim}
-use Rattle.pair_core.specs.Moves.{StoreClaim}
+use Rattle.std.proofs.Common.{refl, ◌==◌, arith, ◌<◌, ◌∙◌, ℕ, sym, subst, ap, true≢false}
+use Rattle.pair_core.specs.Names.{Claim, claim_words}
+use Rattle.pair_core.specs.Moves.{StoreClaim, IsAllowed}
 use Rattle.pair_core.specs.History.{Open}
 use Rattle.pair_core.specs.Shows.{Shows}
 use Rattle.pair_core.proofs.StateSeats.{send_at}
 use Rattle.pair_core.proofs.StateBecomes.{becomes_quiet, no_out, no_take}
 use Rattle.pair_core.proofs.StateSend.{claim_allowed, claim_shown}
+use Rattle.pair_core.specs.declared.view.SendSide.{SendSide}
+use Rattle.pair_core.proofs.StateReads.{reads_2}
 use Rattle.pair_core.proofs.state.CoreState.store_claim.Goals as goal
+
+pub returns-then-event-ne0-clause-becomes : goal.returns-then-event-ne0-clause-becomes
+returns-then-event-ne0-clause-becomes c = λ core shows.
+    let g = c.args.self.now.tables in let e = c.args.event.now in (
+      reads_2 g core e (λ m. ¬ IsAllowed g core m) c.requires (λ k b reads allowed.
+          c.if-event-ne0.true reads.0.by),
+      shows,
+    )
+
+pub returns-then-not-opens_next-clause-becomes : goal.returns-then-not-opens_next-clause-becomes
+returns-then-not-opens_next-clause-becomes c = λ core shows.
+    let g = c.args.self.now.tables in let e = c.args.event.now in (
+      reads_2 g core e (λ m. ¬ IsAllowed g core m) c.requires (λ k b reads allowed.
+          absurd (true≢false (sym (c.if-not-opens_next.ensures.next.1 (
+            subst (λ (z : ℕ). z < claim_words g) (sym reads.0.on) allowed.0,
+            reads.1 ∙ (allowed.1 ∙ sym (ap (λ (d : SendSide). d.round) shows.send_are)),
+            ap (λ (d : SendSide). d.pieces) shows.send_are ∙ allowed.2,
+            reads.0.on ∙ (allowed.3 ∙ sym (ap (λ (d : SendSide). d.opened) shows.send_are)),
+          ))))),
+      shows,
+    )
 
 pub returns-clause-becomes : goal.returns-clause-becomes
 returns-clause-becomes c = λ core shows.

@@ -1,12 +1,37 @@
-use Rattle.std.proofs.Common.{◌%◌, ℕ, refl, sym, ap, ◌∙◌, arith}
-use Rattle.pair_core.specs.Names.{Piece, number}
+use Rattle.std.proofs.Common.{◌%◌, ℕ, refl, sym, ap, ◌∙◌, arith, ◌≤◌, ◌+◌, true≢false, subst}
+use Rattle.pair_core.specs.Names.{Piece, number, Release}
 use Rattle.pair_core.specs.Moves.{IsAllowed, StorePiece}
 use Rattle.pair_core.specs.Shows.{Shows}
 use Rattle.pair_core.proofs.StateSeats.{send_at}
 use Rattle.pair_core.proofs.StateReads.{reads_1}
 use Rattle.pair_core.proofs.StateBecomes.{becomes_quiet}
 use Rattle.pair_core.proofs.StateSend.{piece_allowed, piece_shown}
+use Rattle.gate_word.specs.Words.{round_in}
 use Rattle.pair_core.proofs.state.CoreState.store_piece.Goals as goal
+
+pub returns-then-event-ne0-clause-becomes : goal.returns-then-event-ne0-clause-becomes
+returns-then-event-ne0-clause-becomes c = λ core shows.
+    let g = c.args.self.now.tables in let e = c.args.event.now in (
+      reads_1 g core e (λ m. ¬ IsAllowed g core m) c.requires (λ k i reads allowed.
+          c.if-event-ne0.true reads.0.by),
+      shows,
+    )
+
+pub returns-then-round-gt-LAST_ROUND-clause-becomes : goal.returns-then-round-gt-LAST_ROUND-clause-becomes
+returns-then-round-gt-LAST_ROUND-clause-becomes c = λ core shows.
+    let g = c.args.self.now.tables in let e = c.args.event.now in (
+      reads_1 g core e (λ m. ¬ IsAllowed g core m) c.requires (λ k i reads allowed.
+          let high = c.if-round-gt-LAST_ROUND.true in let low = allowed.1 in let same = reads.1 in omega arith),
+      shows,
+    )
+
+pub returns-then-not-has_room-clause-becomes : goal.returns-then-not-has_room-clause-becomes
+returns-then-not-has_room-clause-becomes c = λ core shows.
+    let g = c.args.self.now.tables in let e = c.args.event.now in (
+      reads_1 g core e (λ m. ¬ IsAllowed g core m) c.requires (λ k i reads allowed.
+          absurd (true≢false (sym ((c.if-not-has_room.ensures core shows).1 (subst (λ (z : ℕ). z ≤ round_in (core.seen 0 Release) + g.depth) (sym reads.1) allowed.2))))),
+      shows,
+    )
 
 pub returns-in_default-clause-becomes : goal.returns-in_default-clause-becomes
 returns-in_default-clause-becomes c = λ core shows.

@@ -1,11 +1,28 @@
 use Rattle.std.proofs.Common.{◌≡◌, ◌<◌, ◌+◌, ◌-◌, sym, refl, arith}
 use Rattle.pair_core.specs.Names.{Return, number, take_words}
-use Rattle.pair_core.specs.Moves.{StoreReturn}
+use Rattle.pair_core.specs.Moves.{StoreReturn, IsAllowed}
 use Rattle.pair_core.specs.Shows.{Shows}
 use Rattle.pair_core.proofs.StateSeats.{recv_at}
 use Rattle.pair_core.proofs.StateBecomes.{becomes_quiet}
 use Rattle.pair_core.proofs.StateSend.{return_allowed, return_shown}
+use Rattle.pair_core.proofs.StateReads.{reads_9}
 use Rattle.pair_core.proofs.state.CoreState.store_return.Goals as goal
+
+pub returns-then-event-ne1-clause-becomes : goal.returns-then-event-ne1-clause-becomes
+returns-then-event-ne1-clause-becomes c = λ core shows.
+    let g = c.args.self.now.tables in let e = c.args.event.now in (
+      reads_9 g core e (λ m. ¬ IsAllowed g core m) c.requires (λ k t reads allowed.
+          c.if-event-ne1.true reads.0.by),
+      shows,
+    )
+
+pub returns-then-round-gt-LAST_ROUND-clause-becomes : goal.returns-then-round-gt-LAST_ROUND-clause-becomes
+returns-then-round-gt-LAST_ROUND-clause-becomes c = λ core shows.
+    let g = c.args.self.now.tables in let e = c.args.event.now in (
+      reads_9 g core e (λ m. ¬ IsAllowed g core m) c.requires (λ k t reads allowed.
+          let high = c.if-round-gt-LAST_ROUND.true in let low = allowed.1 in let same = reads.1 in omega arith),
+      shows,
+    )
 
 pub returns-clause-becomes : goal.returns-clause-becomes
 returns-clause-becomes c = λ core shows.

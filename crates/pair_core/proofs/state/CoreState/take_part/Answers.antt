@@ -1,7 +1,7 @@
-use Rattle.std.proofs.Common.{◌∷◌, ◌<◌, ◌/◌, ◌%◌, ◌∙◌, ℕ, List, Some, None, refl, sym, subst, ap, true≢false, arith}
+use Rattle.std.proofs.Common.{◌∷◌, ◌<◌, ◌/◌, ◌%◌, ◌∙◌, ℕ, List, Some, None, refl, sym, subst, ap, true≢false, arith, ◌≤◌}
 use Rattle.part_geometry.specs.Shape.{Shape}
 use Rattle.pair_core.specs.Names.{Take, Fits, number, take_words}
-use Rattle.pair_core.specs.Moves.{TakePart, IsAllowed, AreSeen}
+use Rattle.pair_core.specs.Moves.{TakePart, IsAllowed, AreSeen, IsRecvActive}
 use Rattle.pair_core.specs.Core.{Out}
 use Rattle.pair_core.specs.Steps.{mark, put_slots as slots_after}
 use Rattle.pair_core.specs.Picks.{picked}
@@ -15,7 +15,49 @@ use Rattle.pair_core.proofs.StateSeats.{recv_at}
 use Rattle.pair_core.proofs.StateReads.{reads_11}
 use Rattle.pair_core.proofs.StateBecomes.{becomes_done}
 use Rattle.pair_core.proofs.StateSend.{taken_allowed, taken_shown}
+use Rattle.pair_core.specs.Reading.{part_bit}
 use Rattle.pair_core.proofs.state.CoreState.take_part.Goals as goal
+
+pub returns-then-event-ne1-clause-becomes : goal.returns-then-event-ne1-clause-becomes
+returns-then-event-ne1-clause-becomes c = λ core shows.
+    let g = c.args.self.now.tables in let e = c.args.event.now in (
+      reads_11 g core e (λ m. ¬ IsAllowed g core m) c.requires (λ p a reads allowed.
+          c.if-event-ne1.true reads.0.by),
+      shows,
+    )
+
+pub returns-then-q-recv_parts-clause-becomes : goal.returns-then-q-recv_parts-clause-becomes
+returns-then-q-recv_parts-clause-becomes c = λ core shows.
+    let g = c.args.self.now.tables in let e = c.args.event.now in (
+      reads_11 g core e (λ m. ¬ IsAllowed g core m) c.requires (λ p a reads allowed.
+          let high : g.recv_parts ≤ e.partition = omega (arith, c.if-q-recv_parts.true, c.recv_parts.ensures.value, ap (λ (g : Shape). g.recv_parts) c.geometry.ensures.value) in
+          let is = reads.1 in let low = allowed.0 in omega arith),
+      shows,
+    )
+
+pub returns-then-event-index-clause-becomes : goal.returns-then-event-index-clause-becomes
+returns-then-event-index-clause-becomes c = λ core shows.
+    let g = c.args.self.now.tables in let e = c.args.event.now in (
+      reads_11 g core e (λ m. ¬ IsAllowed g core m) c.requires (λ p a reads allowed.
+          c.if-event-index.true (reads.0.on ∙ (ap (λ (z : ℕ). number g (Take (z / 32))) (sym reads.1) ∙ sym c.take_word-index.ensures.value))),
+      shows,
+    )
+
+pub returns-then-not-is_recv_active-clause-becomes : goal.returns-then-not-is_recv_active-clause-becomes
+returns-then-not-is_recv_active-clause-becomes c = λ core shows.
+    let g = c.args.self.now.tables in let e = c.args.event.now in (
+      reads_11 g core e (λ m. ¬ IsAllowed g core m) c.requires (λ p a reads allowed.
+          absurd (true≢false (sym (c.if-not-is_recv_active.ensures.1 (subst (IsRecvActive g) (sym shows.recv_are) allowed.1))))),
+      shows,
+    )
+
+pub returns-then-take_bit-ne0-clause-becomes : goal.returns-then-take_bit-ne0-clause-becomes
+returns-then-take_bit-ne0-clause-becomes c = λ core shows.
+    let g = c.args.self.now.tables in let e = c.args.event.now in (
+      reads_11 g core e (λ m. ¬ IsAllowed g core m) c.requires (λ p a reads allowed.
+          c.if-take_bit-ne0.true (c.take_bit.ensures core shows ∙ (ap (part_bit (λ t. core.word (Take t))) reads.1 ∙ allowed.2))),
+      shows,
+    )
 
 pub returns-then-not-sees_over-clause-becomes : goal.returns-then-not-sees_over-clause-becomes
 returns-then-not-sees_over-clause-becomes c = λ core shows.
