@@ -1,9 +1,18 @@
-use Rattle.std.proofs.Common.{◌≡◌, ◌∙◌}
+use Rattle.std.proofs.Common.{◌≡◌, ◌∙◌, ℕ, length, subst, arith}
 use Rattle.std.proofs.lemmas.Option.{slice_get-get_or}
 use Rattle.pair_core.specs.Shows.{Shows, geometry_of}
 use Rattle.pair_core.specs.declared.event.Applied.TheVariants.{Done, NotAllowed}
-use Rattle.pair_core.proofs.StateReplay.{went, stopped}
+use Rattle.pair_core.proofs.StateReplay.{went, stopped, leads_first}
+use Rattle.pair_core.specs.Replaying.{LeadsTo}
 use Rattle.pair_core.proofs.run.replay.Goals as goal
+
+pub loop-at-init : goal.loop-at-init
+loop-at-init c = (c.in_ok-state.ensures.geometry, leads_first c.args.geometry c.args.events.now (Shows c.in_ok-state.state) c.in_ok-state.ensures.first)
+
+pub returns : goal.returns
+returns c =
+    let end : c.loop-at.at ≡ length c.args.events.now = omega arith in
+    (c.loop-at.invariant.0, subst (λ (n : ℕ). LeadsTo c.args.geometry c.args.events.now n (Shows c.loop-at.state)) end c.loop-at.invariant.1)
 
 pub returns-in-NotAllowed : goal.returns-in-NotAllowed
 returns-in-NotAllowed c =

@@ -1,10 +1,10 @@
-use Rattle.std.proofs.Common.{◌∷◌, ◌<◌, ◌/◌, ◌%◌, ◌∙◌, List, Some, sym, subst, ap, refl}
+use Rattle.std.proofs.Common.{◌∷◌, ◌<◌, ◌/◌, ◌%◌, ◌∙◌, List, Some, sym, subst, ap, refl, ℕ, arith}
 use Rattle.part_geometry.specs.Shape.{Shape}
 use Rattle.pair_core.specs.Core.{Out}
 use Rattle.pair_core.specs.Names.{Claim, Fits, put, claim_words}
 use Rattle.pair_core.specs.Steps.{mark, put_slots as slots_after}
 use Rattle.pair_core.specs.Picks.{picked}
-use Rattle.pair_core.specs.State.{IsAt}
+use Rattle.pair_core.specs.State.{IsAt, word_count}
 use Rattle.pair_core.specs.Shows.{Shows}
 use Rattle.pair_core.specs.declared.seat.Seat.{Seat}
 use Rattle.pair_core.specs.declared.seat.Pick.TheVariants.{Sent}
@@ -12,6 +12,21 @@ use Rattle.pair_core.proofs.Cut.{claim_word}
 use Rattle.pair_core.proofs.StateAdds.{at_low}
 use Rattle.pair_core.proofs.StateClaim.{claims_shown}
 use Rattle.pair_core.proofs.state.CoreState.claim.Goals as goal
+
+-- the number of a partition's claim word is that of a word
+inside : (g : Shape) (p : ℕ) → p < g.send_parts → p / 32 < word_count g
+inside g p low = let few = claim_word g p low in omega arith
+
+pub word-word-requires : goal.word-word-requires
+word-word-requires c = inside c.args.self.now.tables c.args.p c.requires.part
+
+pub write-requires-clause-index : goal.write-requires-clause-index
+write-requires-clause-index c =
+    let t = c.put_slots.ensures.tables ∙ (c.set_pending.ensures.tables ∙ c.in_ok-add_mark.ensures.tables) in
+    subst (λ (g : Shape). c.args.p / 32 < word_count g) (sym t) (inside c.args.self.now.tables c.args.p c.requires.part)
+
+pub returns-clause-tables : goal.returns-clause-tables
+returns-clause-tables c = c.write.ensures.tables ∙ (c.put_slots.ensures.tables ∙ (c.set_pending.ensures.tables ∙ c.in_ok-add_mark.ensures.tables))
 
 pub set_pending-requires : goal.set_pending-requires
 set_pending-requires c = at_low c.add_mark.new.self.seats.items c.args.at c.args.seat (c.in_ok-add_mark.ensures.seats c.args.at c.args.seat c.requires.at)

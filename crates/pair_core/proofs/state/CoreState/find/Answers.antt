@@ -1,7 +1,16 @@
-use Rattle.std.proofs.Common.{◌≡◌, ◌<◌, length, get_or, List, subst}
+use Rattle.std.proofs.Common.{◌≡◌, ◌<◌, length, get_or, List, subst, ap, arith}
 use Rattle.pair_core.specs.declared.seat.Seat.{Seat}
 use Rattle.pair_core.proofs.StateSeats.{read_seat}
+use Rattle.std.proofs.lemmas.Option.{slice_get_within}
 use Rattle.pair_core.proofs.state.CoreState.find.Goals as goal
+
+pub returns-then-known-seat-clause-inside : goal.returns-then-known-seat-clause-inside
+returns-then-known-seat-clause-inside c = subst (λ (l : List Seat). c.loop-at.at < length l) c.deref-known-items.ensures.value c.loop-at-test.true
+
+pub returns-clause-none : goal.returns-clause-none
+returns-clause-none c = λ at v is.
+    let low = slice_get_within c.args.self.now.seats.items at v is in
+    c.loop-at.invariant at v (omega (arith, c.loop-at-test.false, ap length c.deref-known-items.ensures.value)) is
 
 pub returns-then-known-seat-clause-some : goal.returns-then-known-seat-clause-some
 returns-then-known-seat-clause-some c =

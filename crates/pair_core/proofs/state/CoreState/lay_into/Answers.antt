@@ -1,17 +1,35 @@
-use Rattle.std.proofs.Common.{◌∙◌, ◌%◌, ◌^◌, ℕ, List, bit_or, sym, subst, ap}
+use Rattle.std.proofs.Common.{◌∙◌, ◌%◌, ◌^◌, ℕ, List, bit_or, sym, subst, ap, ◌<◌, ◌-◌}
 use Rattle.part_geometry.specs.Shape.{Shape}
 use Rattle.pair_core.specs.Core.{Home}
 use Rattle.pair_core.specs.Names.{Piece, Fits, number, put}
 use Rattle.pair_core.specs.Steps.{put_slots as slots_after}
 use Rattle.pair_core.specs.Picks.{picked}
 use Rattle.pair_core.specs.Laying.{laid_on}
-use Rattle.pair_core.specs.State.{IsAt}
+use Rattle.pair_core.specs.State.{IsAt, word_count}
 use Rattle.pair_core.specs.Shows.{Shows}
 use Rattle.pair_core.specs.declared.seat.Seat.{Seat}
 use Rattle.pair_core.specs.declared.seat.Pick.TheVariants.{Laid}
 use Rattle.pair_core.proofs.StateAdds.{at_low}
 use Rattle.pair_core.proofs.StateLay.{lays_shown, low_at}
+use Rattle.part_geometry.specs.Pieces.{first_part}
 use Rattle.pair_core.proofs.state.CoreState.lay_into.Goals as goal
+
+pub put_slots-requires : goal.put_slots-requires
+put_slots-requires c = subst (λ (g : Shape). c.place-place.result < g.depth) (sym c.in_ok-lay.ensures.tables) c.place-place.ensures.limits
+
+pub write-requires-clause-index : goal.write-requires-clause-index
+write-requires-clause-index c =
+    subst (λ (g : Shape). c.piece_word-index.result < word_count g) (sym (c.put_slots.ensures.tables ∙ c.in_ok-lay.ensures.tables)) c.piece_word-index.ensures.limits
+
+pub returns-clause-tables : goal.returns-clause-tables
+returns-clause-tables c = c.write.ensures.tables ∙ (c.put_slots.ensures.tables ∙ c.in_ok-lay.ensures.tables)
+
+pub returns-clause-word : goal.returns-clause-word
+returns-clause-word c = λ core shows.
+    let g = c.args.self.now.tables in let i = c.args.lay.piece in let place = c.place-place.result in
+    (c.with_bit-word.ensures ∙ ap (λ (z : ℕ). bit_or c.word.result (2 ^ z)) c.part_bit-bit.ensures.value)
+    ∙ ap (λ (w : ℕ). bit_or w (2 ^ (c.args.p - first_part g i)))
+    (c.word.ensures core (Piece place i) shows (c.place-place.ensures.limits, c.requires.piece) (sym c.piece_word-index.ensures.value) ∙ ap (λ (z : ℕ). core.word (Piece z i)) c.place-place.ensures.value)
 
 pub write-requires-clause-at : goal.write-requires-clause-at
 write-requires-clause-at c =

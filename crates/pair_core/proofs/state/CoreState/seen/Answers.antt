@@ -2,6 +2,11 @@ use Rattle.std.proofs.Common.{◌<◌, ℕ, ap, sym, ◌∙◌, get_or, length, 
 use Rattle.pair_core.proofs.StateSeats.{read_seat, read_number, at_seat}
 use Rattle.pair_core.proofs.state.CoreState.seen.Goals as goal
 
+pub index-requires-2 : goal.index-requires-2
+index-requires-2 c =
+    let size = c.args.self.now.kept.seen c.args.at c.index.result.now (read_seat c.args.self.now.seats.items c.args.at c.index.result.now c.requires.at c.index.ensures) in
+    omega (arith, c.requires.index)
+
 pub returns : goal.returns
 returns c = λ core n x shows there fits at.
     let is = read_seat c.args.self.now.seats.items c.args.at c.index.result.now c.requires.at c.index.ensures in

@@ -1,13 +1,21 @@
-use Rattle.std.proofs.Common.{◌≡◌, ◌∙◌, ◌*◌, length, refl, subst, ap}
+use Rattle.std.proofs.Common.{◌≡◌, ◌∙◌, ◌*◌, length, refl, subst, ap, ℕ, List, sym}
 use Rattle.std.specs.Prelude.{replicate}
 use Rattle.std.proofs.lemmas.List.{length-replicate}
 use Rattle.part_geometry.specs.Shape.{Shape}
 use Rattle.part_geometry.specs.Cells.{cells}
-use Rattle.pair_core.specs.Moves.{first_state}
-use Rattle.pair_core.specs.State.{Plain, Stands}
+use Rattle.pair_core.specs.Moves.{first_state, first_word}
+use Rattle.pair_core.specs.State.{Plain, Stands, ListsWords}
 use Rattle.pair_core.specs.declared.seat.Spot.TheVariants.{Filled}
 use Rattle.pair_core.proofs.StateFirst.{first_kept, first_stands}
 use Rattle.pair_core.proofs.state.CoreState.start.Goals as goal
+
+pub first_seats-requires-clause-size : goal.first_seats-requires-clause-size
+first_seats-requires-clause-size c = ap length c.as_slice.ensures.value ∙ c.in_ok-words.ensures.size
+
+pub first_seats-requires-clause-words : goal.first_seats-requires-clause-words
+first_seats-requires-clause-words c =
+    let g = c.in_ok-tables.tables in
+    subst (λ (l : List ℕ). ListsWords g l (first_word g)) (sym c.as_slice.ensures.value) c.in_ok-words.ensures.words
 
 pub invariant_of-result : goal.invariant_of-result
 invariant_of-result c =
