@@ -44,24 +44,26 @@ impl CoreState {
         ensures geometry { IfOk result (λ state. geometry_of state ≡ geometry) }
     {
         let tables = Tables::create(alloc, geometry)?;
-        let words = first_words(alloc, &tables)?;
-        let seats = first_seats(alloc, &tables, words.as_slice())?;
         let spots = tables.geometry().depth() as usize * tables.cells();
-        let slots = vec![in alloc; Spot::Filled { round: 0 }; spots]?;
+        let claims = tables.claim_words() as u32;
+        let takes = tables.take_words() as u32;
         let send = SendSide {
             round: 0,
             pieces: tables.pieces() as u32,
-            opened: tables.claim_words() as u32,
-            shut: tables.claim_words() as u32,
+            opened: claims,
+            shut: claims,
             markers: 0,
         };
         let recv = RecvSide {
             round: 0,
-            returns: tables.take_words() as u32,
-            takes: tables.take_words() as u32,
+            returns: takes,
+            takes,
             released: 1,
             watchers: 0,
         };
+        let words = first_words(alloc, &tables)?;
+        let seats = first_seats(alloc, &tables, words.as_slice())?;
+        let slots = vec![in alloc; Spot::Filled { round: 0 }; spots]?;
         Ok(CoreState {
             tables,
             words,

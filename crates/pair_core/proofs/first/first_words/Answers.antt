@@ -1,7 +1,14 @@
 use Rattle.std.proofs.Common.{◌≡◌, ◌<◌, ◌+◌, ◌*◌, ℕ, refl, subst, arith}
 use Rattle.pair_core.specs.State.{word_count}
 use Rattle.pair_core.proofs.StateNumbers.{number_lt}
+use Rattle.std.proofs.lemmas.Nat.{mul-le}
 use Rattle.pair_core.proofs.first.first_words.Goals as goal
+
+pub overflow_mul-count : goal.overflow_mul-count
+overflow_mul-count c = let h = mul-le _ _ _ _ c.depth.ensures.limits.1 c.pieces.ensures.limits in omega arith
+
+pub loop-n-preserved : goal.loop-n-preserved
+loop-n-preserved c = grind arith
 
 pub first_word_at-requires : goal.first_word_at-requires
 first_word_at-requires c =

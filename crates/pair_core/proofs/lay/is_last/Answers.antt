@@ -3,6 +3,9 @@ use Rattle.part_geometry.specs.Shape.{IsShape}
 use Rattle.pair_core.proofs.StateLay.{none_left, one_left}
 use Rattle.pair_core.proofs.lay.is_last.Goals as goal
 
+pub loop-j-preserved : goal.loop-j-preserved
+loop-j-preserved c = grind arith
+
 pub returns-then-lacks : goal.returns-then-lacks
 returns-then-lacks c =
     let v = subst IsShape c.geometry-geometry.ensures.value c.geometry-geometry.ensures.limits in
