@@ -5,6 +5,18 @@ use Rattle.pair_core.specs.Names.{claim_words, take_words}
 use Rattle.pair_core.proofs.StateNumbers.{first_piece}
 use Rattle.pair_core.proofs.first.first_word_at.Goals as goal
 
+pub returns-then-n-claims : goal.returns-then-n-claims
+returns-then-n-claims c = grind arith
+
+pub returns-then-n-claims-2 : goal.returns-then-n-claims-2
+returns-then-n-claims-2 c = grind arith
+
+pub returns-then-n-claims-3 : goal.returns-then-n-claims-3
+returns-then-n-claims-3 c = grind arith
+
+pub returns-then-n-claims-4 : goal.returns-then-n-claims-4
+returns-then-n-claims-4 c = grind arith
+
 pub returns : goal.returns
 returns c = λ x fits here.
     let g = c.args.tables.now in

@@ -1,13 +1,19 @@
-use Rattle.std.proofs.Common.{◌<◌, refl, sym, subst, arith}
+use Rattle.std.proofs.Common.{◌<◌, refl, sym, subst, arith, ap}
 use Rattle.part_geometry.specs.Shape.{Shape}
 use Rattle.pair_core.specs.Names.{Claim, claim_words, Fits}
 use Rattle.pair_core.specs.Moves.{LoadClaim, IsAllowed}
 use Rattle.pair_core.specs.Steps.{enters}
 use Rattle.pair_core.specs.Shows.{Shows}
 use Rattle.pair_core.proofs.StateBecomes.{becomes_quiet}
-use Rattle.pair_core.proofs.StateAdds.{entered_live, view_live}
+use Rattle.pair_core.proofs.StateAdds.{entered_live, view_live, at_low}
 use Rattle.pair_core.proofs.StateReads.{reads_3}
 use Rattle.pair_core.proofs.state.CoreState.load_claim.Goals as goal
+
+pub look-requires-clause-at : goal.look-requires-clause-at
+look-requires-clause-at c = at_low c.enter.new.self.seats.items c.in_ok-at.at c.args.event.now.seat c.in_ok-at.ensures.at
+
+pub look-requires-clause-index : goal.look-requires-clause-index
+look-requires-clause-index c = omega (arith, c.if-c-claim_words.false, c.claim_words.ensures.value, ap claim_words c.enter.ensures.tables)
 
 pub returns-then-c-claim_words-clause-becomes : goal.returns-then-c-claim_words-clause-becomes
 returns-then-c-claim_words-clause-becomes c = λ core shows.

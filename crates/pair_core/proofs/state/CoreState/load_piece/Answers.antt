@@ -1,4 +1,4 @@
-use Rattle.std.proofs.Common.{refl, sym, subst, ap, ◌∙◌}
+use Rattle.std.proofs.Common.{refl, sym, subst, ap, ◌∙◌, ◌<◌}
 use Rattle.part_geometry.specs.Shape.{Shape}
 use Rattle.pair_core.specs.Names.{Piece, Fits, number}
 use Rattle.pair_core.specs.Moves.{LoadPiece, IsAllowed}
@@ -7,7 +7,11 @@ use Rattle.pair_core.specs.Shows.{Shows}
 use Rattle.pair_core.proofs.StateReads.{reads_4}
 use Rattle.pair_core.proofs.StateBecomes.{becomes_quiet}
 use Rattle.pair_core.proofs.StateAdds.{entered_live, view_live, at_low}
+use Rattle.pair_core.specs.State.{word_count}
 use Rattle.pair_core.proofs.state.CoreState.load_piece.Goals as goal
+
+pub look-requires-clause-index : goal.look-requires-clause-index
+look-requires-clause-index c = subst (λ (g : Shape). c.args.event.now.word < word_count g) (sym c.enter.ensures.tables) (c.if-not-is_piece.ensures.some refl).4
 
 pub returns-then-not-is_piece-clause-becomes : goal.returns-then-not-is_piece-clause-becomes
 returns-then-not-is_piece-clause-becomes c = λ core shows.
