@@ -1,14 +1,19 @@
 -- A claim that was won, and one that was lost, as the code makes them: it reads the round, the place and the words
 -- once, and what it writes by them is what the claim writes.
-use Rattle.std.proofs.Common.{◌≡◌, ◌≢◌, ◌∙◌, ℕ, ◌/◌, ◌%◌, ◌^◌, ◌==◌, List, [], ◌∷◌, Some, bit_or, sym, ap, subst}
+use Rattle.std.proofs.Common.{◌≡◌, ◌≢◌, ◌∙◌, ℕ, ◌/◌, ◌%◌, ◌^◌, ◌==◌, ◌<◌, List, [], ◌∷◌, Some, bit_or, sym, ap, subst, arith}
 use Rattle.std.proofs.lemmas.Bool.{cond-true, cond-false, eq-eqb, ne_eqb}
 use Rattle.part_geometry.specs.Shape.{Shape}
 use Rattle.part_geometry.specs.Cells.{send_of}
 use Rattle.pair_core.specs.Names.{Claim, put}
 use Rattle.pair_core.specs.Core.{Core, Out}
 use Rattle.pair_core.specs.Steps.{wrote, mark, put_slots, claims, loads, tries_claim}
-use Rattle.pair_core.specs.State.{Plain}
+use Rattle.pair_core.specs.State.{Plain, word_count}
 use Rattle.pair_core.specs.declared.view.SendSide.{SendSide}
+use Rattle.pair_core.proofs.Cut.{claim_word}
+
+-- the claim word of a send partition has the number of a word
+pub claim_number : (g : Shape) → (p : ℕ) → p < g.send_parts → p / 32 < word_count g
+claim_number g p low = let few = claim_word g p low in omega arith
 
 -- where the code's values are the core's, what shows the core that it wrote shows the claim's
 pub claims_shown : (g : Shape) (Shown : Core Plain → Type 0) (s : Core Plain) (d : SendSide) (place n p v w : ℕ) (laid : List ℕ) → d ≡ s.send → laid ≡ [] → place ≡ d.round % g.depth

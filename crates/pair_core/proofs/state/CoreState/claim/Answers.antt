@@ -1,4 +1,4 @@
-use Rattle.std.proofs.Common.{◌∷◌, ◌<◌, ◌/◌, ◌%◌, ◌∙◌, List, Some, sym, subst, ap, refl, ℕ, arith}
+use Rattle.std.proofs.Common.{◌∷◌, ◌<◌, ◌/◌, ◌%◌, ◌∙◌, List, Some, sym, subst, ap, refl}
 use Rattle.part_geometry.specs.Shape.{Shape}
 use Rattle.pair_core.specs.Core.{Out}
 use Rattle.pair_core.specs.Names.{Claim, Fits, put, claim_words}
@@ -10,20 +10,16 @@ use Rattle.pair_core.specs.declared.seat.Seat.{Seat}
 use Rattle.pair_core.specs.declared.seat.Pick.TheVariants.{Sent}
 use Rattle.pair_core.proofs.Cut.{claim_word}
 use Rattle.pair_core.proofs.StateAdds.{at_low}
-use Rattle.pair_core.proofs.StateClaim.{claims_shown}
+use Rattle.pair_core.proofs.StateClaim.{claim_number, claims_shown}
 use Rattle.pair_core.proofs.state.CoreState.claim.Goals as goal
 
--- the number of a partition's claim word is that of a word
-inside : (g : Shape) (p : ℕ) → p < g.send_parts → p / 32 < word_count g
-inside g p low = let few = claim_word g p low in omega arith
-
 pub word-word-requires : goal.word-word-requires
-word-word-requires c = inside c.args.self.now.tables c.args.p c.requires.part
+word-word-requires c = claim_number c.args.self.now.tables c.args.p c.requires.part
 
 pub write-requires-clause-index : goal.write-requires-clause-index
 write-requires-clause-index c =
     let t = c.put_slots.ensures.tables ∙ (c.set_pending.ensures.tables ∙ c.in_ok-add_mark.ensures.tables) in
-    subst (λ (g : Shape). c.args.p / 32 < word_count g) (sym t) (inside c.args.self.now.tables c.args.p c.requires.part)
+    subst (λ (g : Shape). c.args.p / 32 < word_count g) (sym t) (claim_number c.args.self.now.tables c.args.p c.requires.part)
 
 pub returns-clause-tables : goal.returns-clause-tables
 returns-clause-tables c = c.write.ensures.tables ∙ (c.put_slots.ensures.tables ∙ (c.set_pending.ensures.tables ∙ c.in_ok-add_mark.ensures.tables))

@@ -10,26 +10,21 @@ use Rattle.pair_core.proofs.Cut.{claim_word}
 use Rattle.pair_core.proofs.StateReads.{reads_7}
 use Rattle.pair_core.proofs.StateAdds.{view_live}
 use Rattle.pair_core.proofs.StateBecomes.{becomes_quiet, no_out, no_take}
-use Rattle.pair_core.proofs.StateClaim.{won, lost}
-use Rattle.pair_core.specs.State.{word_count}
+use Rattle.pair_core.proofs.StateClaim.{claim_number, won, lost}
 use Rattle.pair_core.proofs.state.CoreState.try_claim.Goals as goal
 use Rattle.pair_core.proofs.state.CoreState.try_claim.Goals.{then-event-lt2-via-then-event-lt2, then-event-lt2-via-else-event-lt2+then-event-ne0}
-
--- the number of a partition's claim word is that of a word
-inside : (g : Shape) (p : ℕ) → p < g.send_parts → p / 32 < word_count g
-inside g p low = let few = claim_word g p low in omega arith
 
 pub may_claim-requires-clause-part : goal.may_claim-requires-clause-part
 may_claim-requires-clause-part c = omega (arith, c.send_parts.ensures.value, ap (λ (g : Shape). g.send_parts) c.geometry.ensures.value)
 
 pub word-requires : goal.word-requires
-word-requires c = inside c.args.self.now.tables c.args.event.now.partition (omega (arith, c.send_parts.ensures.value, ap (λ (g : Shape). g.send_parts) c.geometry.ensures.value))
+word-requires c = claim_number c.args.self.now.tables c.args.event.now.partition (omega (arith, c.send_parts.ensures.value, ap (λ (g : Shape). g.send_parts) c.geometry.ensures.value))
 
 pub seen-requires-clause-index : goal.seen-requires-clause-index
-seen-requires-clause-index c = inside c.args.self.now.tables c.args.event.now.partition (omega (arith, c.send_parts.ensures.value, ap (λ (g : Shape). g.send_parts) c.geometry.ensures.value))
+seen-requires-clause-index c = claim_number c.args.self.now.tables c.args.event.now.partition (omega (arith, c.send_parts.ensures.value, ap (λ (g : Shape). g.send_parts) c.geometry.ensures.value))
 
 pub look-requires-clause-index : goal.look-requires-clause-index
-look-requires-clause-index c = inside c.args.self.now.tables c.args.event.now.partition (omega (arith, c.send_parts.ensures.value, ap (λ (g : Shape). g.send_parts) c.geometry.ensures.value))
+look-requires-clause-index c = claim_number c.args.self.now.tables c.args.event.now.partition (omega (arith, c.send_parts.ensures.value, ap (λ (g : Shape). g.send_parts) c.geometry.ensures.value))
 
 pub claim-requires-clause-at : goal.claim-requires-clause-at
 claim-requires-clause-at c = c.in-Some.ensures.some
