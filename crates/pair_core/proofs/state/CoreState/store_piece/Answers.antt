@@ -1,13 +1,29 @@
-use Rattle.std.proofs.Common.{◌%◌, ℕ, refl, sym, ap, ◌∙◌, arith, ◌≤◌, ◌+◌, true≢false, subst}
-use Rattle.pair_core.specs.Names.{Piece, number, Release}
-use Rattle.pair_core.specs.Moves.{IsAllowed, StorePiece}
+use Rattle.std.proofs.Common.{◌%◌, ℕ, refl, sym, ap, ◌∙◌, arith, ◌≤◌, ◌+◌, true≢false, subst, ◌≡◌}
+use Rattle.pair_core.specs.Names.{Piece, number, Release, claim_words}
+use Rattle.pair_core.specs.Moves.{IsAllowed, StorePiece, IsSendIdle}
 use Rattle.pair_core.specs.Shows.{Shows}
 use Rattle.pair_core.proofs.StateSeats.{send_at}
 use Rattle.pair_core.proofs.StateReads.{reads_1}
 use Rattle.pair_core.proofs.StateBecomes.{becomes_quiet}
 use Rattle.pair_core.proofs.StateSend.{piece_allowed, piece_shown}
 use Rattle.gate_word.specs.Words.{round_in}
+use Rattle.std.specs.Prelude.{◌⊎◌}
+use Rattle.pair_core.specs.declared.view.SendSide.{SendSide}
 use Rattle.pair_core.proofs.state.CoreState.store_piece.Goals as goal
+
+pub returns-then-not-begins_next-clause-becomes : goal.returns-then-not-begins_next-clause-becomes
+returns-then-not-begins_next-clause-becomes c = λ core shows.
+    let s = c.args.self.now in let g = s.tables in let e = c.args.event.now in let i = c.in-Some.i in let found = c.in-Some.ensures.some in (
+      reads_1 g core e (λ m. ¬ IsAllowed g core m) c.requires (λ k j reads allowed.
+          let place : k % g.depth ≡ c.place-place.result = ap (λ (z : ℕ). z % g.depth) (sym reads.1) ∙ sym c.place-place.ensures.value in
+          let on : e.word ≡ number g (Piece c.place-place.result j) = reads.0.on ∙ ap (λ (z : ℕ). number g (Piece z j)) place in
+          let same : j ≡ i = (let there = found.1 in omega arith) in
+          let next = subst (λ (d : SendSide). ((j ≡ 0) × IsSendIdle g d × (k ≡ d.round + 1)) ⊎ ((1 ≤ j) × (j ≡ d.pieces) × (k ≡ d.round))) (sym shows.send_are) allowed.3 in
+          let here = subst (λ (z : ℕ). ((z ≡ 0) × IsSendIdle g s.send × (k ≡ s.send.round + 1)) ⊎ ((1 ≤ z) × (z ≡ s.send.pieces) × (k ≡ s.send.round))) same next in
+          absurd (true≢false (sym (c.if-not-begins_next.ensures.1
+          (subst (λ (z : ℕ). ((i ≡ 0) × (s.send.shut ≡ claim_words g) × (z ≡ s.send.round + 1)) ⊎ ((1 ≤ i) × (i ≡ s.send.pieces) × (z ≡ s.send.round))) (sym reads.1) here))))),
+      shows,
+    )
 
 pub returns-then-event-ne0-clause-becomes : goal.returns-then-event-ne0-clause-becomes
 returns-then-event-ne0-clause-becomes c = λ core shows.

@@ -1,12 +1,27 @@
-use Rattle.std.proofs.Common.{◌≡◌, ◌<◌, ◌+◌, ◌-◌, sym, refl, arith}
+use Rattle.std.proofs.Common.{◌≡◌, ◌<◌, ◌+◌, ◌-◌, sym, refl, arith, ◌≤◌, ℕ, subst, true≢false}
 use Rattle.pair_core.specs.Names.{Return, number, take_words}
-use Rattle.pair_core.specs.Moves.{StoreReturn, IsAllowed}
+use Rattle.pair_core.specs.Moves.{StoreReturn, IsAllowed, IsRecvIdle}
 use Rattle.pair_core.specs.Shows.{Shows}
 use Rattle.pair_core.proofs.StateSeats.{recv_at}
 use Rattle.pair_core.proofs.StateBecomes.{becomes_quiet}
 use Rattle.pair_core.proofs.StateSend.{return_allowed, return_shown}
 use Rattle.pair_core.proofs.StateReads.{reads_9}
+use Rattle.std.specs.Prelude.{◌⊎◌}
+use Rattle.pair_core.specs.declared.view.RecvSide.{RecvSide}
 use Rattle.pair_core.proofs.state.CoreState.store_return.Goals as goal
+
+pub returns-then-not-returns_next-clause-becomes : goal.returns-then-not-returns_next-clause-becomes
+returns-then-not-returns_next-clause-becomes c = λ core shows.
+    let s = c.args.self.now in let g = s.tables in let e = c.args.event.now in
+    let n = e.word - (c.claim_words.result + 1 + c.take_words.result) in (
+      reads_9 g core e (λ m. ¬ IsAllowed g core m) c.requires (λ k t reads allowed.
+          let same : t ≡ n = (let on = reads.0.on in omega (arith, c.claim_words.ensures.value, c.take_words.ensures.value)) in
+          let next = subst (λ (d : RecvSide). ((t ≡ 0) × IsRecvIdle d × (k ≡ d.round + 1)) ⊎ ((1 ≤ t) × (t ≡ d.returns) × (k ≡ d.round))) (sym shows.recv_are) allowed.2 in
+          let here = subst (λ (z : ℕ). ((z ≡ 0) × IsRecvIdle s.recv × (k ≡ s.recv.round + 1)) ⊎ ((1 ≤ z) × (z ≡ s.recv.returns) × (k ≡ s.recv.round))) same next in
+          absurd (true≢false (sym (c.if-not-returns_next.ensures.1
+          (subst (λ (z : ℕ). ((n ≡ 0) × (s.recv.released ≡ 1) × (z ≡ s.recv.round + 1)) ⊎ ((1 ≤ n) × (n ≡ s.recv.returns) × (z ≡ s.recv.round))) (sym reads.1) here))))),
+      shows,
+    )
 
 pub returns-then-event-ne1-clause-becomes : goal.returns-then-event-ne1-clause-becomes
 returns-then-event-ne1-clause-becomes c = λ core shows.
