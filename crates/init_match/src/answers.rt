@@ -2,8 +2,6 @@
 
 use part_geometry::Geometry;
 use std::alloc::AllocError;
-use std::error::Error;
-use std::fmt;
 
 /// Why three numbers make no world. They are tried in this order.
 #[derive(Clone, Copy, Debug, PartialEq, Eq)]
@@ -15,18 +13,6 @@ pub enum WorldFault {
     /// The depth isn't from 1 to 4.
     BadDepth,
 }
-
-impl fmt::Display for WorldFault {
-    fn fmt<W: fmt::Write>(&self, f: &mut fmt::Formatter<W>) -> fmt::Result {
-        f.write_str(match self {
-            WorldFault::BadRanks => "a world has 1 to 64 ranks",
-            WorldFault::BadGrain => "the grain is 1 to 16777216 bytes",
-            WorldFault::BadDepth => "the depth is 1 to 4 rounds",
-        })
-    }
-}
-
-impl Error for WorldFault {}
 
 /// Why an initialisation was refused. The causes are tried in this order, but for `NoMemory`, which may come in place
 /// of any other answer.
@@ -52,24 +38,6 @@ pub enum InitFault {
     NoMemory,
 }
 
-impl fmt::Display for InitFault {
-    fn fmt<W: fmt::Write>(&self, f: &mut fmt::Formatter<W>) -> fmt::Result {
-        f.write_str(match self {
-            InitFault::BadRank => "no such rank",
-            InitFault::BadTag => "a tag is at most 32767",
-            InitFault::BadComm => "a communicator is at most 15",
-            InitFault::BadParts => "a side has 1 to 1024 partitions",
-            InitFault::BadBytes => "a partition has 1 to 1048576 bytes",
-            InitFault::TooLong => "a message has at most 16777216 bytes",
-            InitFault::SizeMismatch { .. } => "the two sides have different numbers of bytes",
-            InitFault::WorldFull { .. } => "all initialisations together have too many bytes",
-            InitFault::NoMemory => "out of memory",
-        })
-    }
-}
-
-impl Error for InitFault {}
-
 impl From<AllocError> for InitFault {
     ghost use Rattle.std.specs.Prelude.{◌≡◌};
     ghost use Rattle.init_match.specs.declared.answers.InitFault.TheVariants.{NoMemory};
@@ -82,7 +50,7 @@ impl From<AllocError> for InitFault {
 }
 
 /// A pair: the slots of its two initialisations, and its geometry.
-#[derive(Clone, Copy, Debug, PartialEq, Eq)]
+#[derive(Clone, Copy)]
 pub struct Matched {
     /// The slot of the sender's initialisation.
     pub send_slot: u32,
