@@ -9,3 +9,4 @@ pub mod Rows
 pub mod ReaderFacts
 pub mod Overs
 pub mod Walks
+pub mod MakingFacts

@@ -1,6 +1,7 @@
 //! Answers that every kind of pair gives.
 
-use thiserror::Error;
+use std::error::Error;
+use std::fmt;
 
 /// A side of a pair (MPI 4.0, 4.2.1).
 #[derive(Clone, Copy, Debug, PartialEq, Eq)]
@@ -34,15 +35,24 @@ pub struct Marks {
 }
 
 /// Why a side wasn't started (`MPI_Start`, MPI 4.0, 3.9).
-#[derive(Clone, Copy, Debug, PartialEq, Eq, Error)]
+#[derive(Clone, Copy, Debug, PartialEq, Eq)]
 pub enum StartFault {
     /// The side is active already, in this round.
-    #[error("already active in round {round}")]
     AlreadyActive { round: u32 },
     /// The side has had all 2,147,483,647 rounds.
-    #[error("all rounds are spent")]
     RoundsSpent,
 }
+
+impl fmt::Display for StartFault {
+    fn fmt<W: fmt::Write>(&self, f: &mut fmt::Formatter<W>) -> fmt::Result {
+        match self {
+            StartFault::AlreadyActive { round } => write!(f, "already active in round {round}"),
+            StartFault::RoundsSpent => f.write_str("all rounds are spent"),
+        }
+    }
+}
+
+impl Error for StartFault {}
 
 /// What a test of a receive answers (`MPI_Test` of a partitioned receive, MPI 4.0, 4.2.2).
 #[derive(Clone, Copy, Debug, PartialEq, Eq)]

@@ -6,35 +6,53 @@ ghost use Rattle.part_geometry.specs.Shape.{IsShape, IsWithin, send_total};
 ghost use Rattle.part_geometry.specs.Making.{both_within, geometry_of, parts_answer};
 
 use crate::{MAX_DEPTH, MAX_GRAIN, MAX_PART_BYTES, MAX_PARTS, MAX_TOTAL};
+use std::error::Error;
+use std::fmt;
 use std::marker::Model;
-use thiserror::Error;
 
 /// Why six numbers make no geometry. They are tried in this order.
-#[derive(Clone, Copy, Debug, PartialEq, Eq, Error)]
+#[derive(Clone, Copy, Debug, PartialEq, Eq)]
 pub enum GeometryFault {
     /// A number of partitions isn't from 1 to 1,024.
-    #[error("a side has 1 to 1024 partitions")]
     BadParts,
     /// The bytes of a partition aren't from 1 to 1,048,576.
-    #[error("a partition has 1 to 1048576 bytes")]
     BadBytes,
     /// A side has more than 16,777,216 bytes in all.
-    #[error("a message has at most 16777216 bytes")]
     TooLong,
     /// The sides have different totals, in bytes.
-    #[error("the sender has {send_total} bytes and the receiver {recv_total}")]
     SizeMismatch { send_total: u32, recv_total: u32 },
     /// The grain isn't from 1 to 16,777,216.
-    #[error("the grain is 1 to 16777216 bytes")]
     BadGrain,
     /// The depth isn't from 1 to 4.
-    #[error("the depth is 1 to 4 rounds")]
     BadDepth,
 }
 
+impl fmt::Display for GeometryFault {
+    fn fmt<W: fmt::Write>(&self, f: &mut fmt::Formatter<W>) -> fmt::Result {
+        f.write_str(match self {
+            GeometryFault::BadParts => "a side has 1 to 1024 partitions",
+            GeometryFault::BadBytes => "a partition has 1 to 1048576 bytes",
+            GeometryFault::TooLong => "a message has at most 16777216 bytes",
+            GeometryFault::SizeMismatch {
+                send_total,
+                recv_total,
+            } => {
+                return write!(
+                    f,
+                    "the sender has {send_total} bytes and the receiver {recv_total}"
+                );
+            }
+            GeometryFault::BadGrain => "the grain is 1 to 16777216 bytes",
+            GeometryFault::BadDepth => "the depth is 1 to 4 rounds",
+        })
+    }
+}
+
+impl Error for GeometryFault {}
+
 /// How the two sides of a pair cut one message into partitions (MPI 4.0, 4.2), how many bytes a piece has at
 /// least, and how many rounds may be in flight. Contracts see the six numbers.
-#[derive(Clone, Copy, Debug, PartialEq, Eq)]
+#[derive(Clone, Copy)]
 pub struct Geometry {
     send_parts: u32,
     send_bytes: u32,
