@@ -44,7 +44,7 @@ impl Model for PlainPair {
 }
 
 /// How far a closed pair came.
-#[derive(Clone, Copy, Debug, PartialEq, Eq)]
+#[derive(Clone, Copy)]
 pub struct PlainClosed {
     /// The sender's last round, 0 where it had none.
     pub send_round: u32,
