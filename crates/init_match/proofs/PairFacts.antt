@@ -1,9 +1,10 @@
 -- The pairs of a list of calls, and what holds of a world: one more call adds to the pairs the one that it completes,
 -- if any, and its bytes to the sum.
-use Rattle.std.proofs.Common.{◌≡◌, ℕ, zero, suc, ◌+◌, Bool, true, nat_le, ◌≤◌, Some, None, Option, Ok, Err, Result, List, [], ◌∷◌, ◌++◌, length, map, refl, ap, sym, subst, ◌∙◌, arith, length-append, append_assoc}
+use Rattle.std.proofs.Common.{◌≡◌, ℕ, zero, suc, ◌+◌, Bool, true, false, nat_le, ◌<◌, ◌≤◌, Some, None, Option, Ok, Err, Result, List, [], ◌∷◌, ◌++◌, length, map, refl, ap, sym, subst, ◌∙◌, arith, length-append, append_assoc}
 use Rattle.std.specs.List.{slice_get}
+use Rattle.std.specs.Result.{IsErr}
 use Rattle.std.specs.Option.{option_map, option_map_or, option_to_list}
-use Rattle.std.proofs.lemmas.Bool.{and_parts, leb-true}
+use Rattle.std.proofs.lemmas.Bool.{and_parts, leb-true, lt-ltb, le-ltb, false≢true}
 use Rattle.part_geometry.specs.Shape.{IsWithin}
 use Rattle.std.proofs.lemmas.List.{map-append}
 use Rattle.std.proofs.lemmas.List.Sums.{sum_by_push}
@@ -11,13 +12,15 @@ use Rattle.std.proofs.Math.Nat.{one-le-mul}
 use Rattle.part_geometry.specs.declared.TheConstants.{MAX_GRAIN, MAX_DEPTH}
 use Rattle.init_match.specs.declared.TheConstants.{MAX_VOLUME}
 use Rattle.init_match.specs.declared.answers.InitFault.{InitFault}
+use Rattle.init_match.specs.declared.answers.InitFault.TheVariants.{WorldFull}
+use Rattle.std.specs.Prelude.{nat_lt, if◌then◌else◌}
 use Rattle.init_match.specs.declared.answers.Matched.{Matched}
 use Rattle.init_match.specs.declared.keys.Call.{Call}
 use Rattle.init_match.specs.declared.world.World.TheInside.{Inside}
 use Rattle.init_match.specs.Calls.{total, facing}
 use Rattle.init_match.specs.Matching.{partner_before, turn_of, completed_by, pairs_after, pairs_of}
-use Rattle.init_match.specs.World.{WorldState, completed_answer, is_within, matched_as, size_fault, volume}
-use Rattle.init_match.specs.Sound.{IsFit, IsWorld}
+use Rattle.init_match.specs.World.{WorldState, after_init, completed_answer, init_answer, number_answer, number_fault, is_within, matched_as, size_fault, volume}
+use Rattle.init_match.specs.Sound.{IsFit, IsWorld, calls_of}
 use Rattle.init_match.proofs.Placing.{stands_at}
 
 -- a list with nothing behind it is itself
@@ -137,3 +140,47 @@ world_first w grain depth sum calls pairs = record {
   where
     none : (i : ℕ) (c : Call) → ◌≡◌ {A = Option Call} None (Some c) → IsFit c
     none i c is = cc
+
+-- a refused call changes nothing
+pub refused : (w : WorldState) (c : Call) (r : Result ℕ InitFault) → IsErr r → w ≡ after_init w c r
+refused w c (Ok slot) err = absurd (false≢true err)
+refused w c (Err fault) err = refl
+
+-- what is answered by a fault, and else by a value
+abbrev faulted : {A : Type 0} → Option InitFault → A → Result A InitFault
+faulted f x = option_map_or Err f (Ok x)
+
+-- a fault is answered whatever else would be
+pub fault_is : {A : Type 0} (f : Option InitFault) (x : A) (rest : Result ℕ InitFault) (e : InitFault) → faulted f x ≡ Err e → Err e ≡ option_map_or Err f rest
+fault_is None x rest e is = cc
+fault_is (Some d) x rest e is = cc
+
+fault_none : {A : Type 0} (f : Option InitFault) (x y : A) → faulted f x ≡ Ok y → f ≡ None
+fault_none None x y is = refl
+fault_none (Some d) x y is = cc
+
+-- a call with numbers that are right is refused for the sizes of the pair that it completes
+pub sizes_refuse : (w : WorldState) (c : Call) (e : InitFault) → number_answer w.ranks c ≡ Ok tt → completed_answer w c ≡ Err e → Err e ≡ init_answer w c
+sizes_refuse w c e numbers sizes =
+    rw (fault_none (number_fault w.ranks c) tt tt numbers)
+    (fault_is (size_fault (completed_by w.calls c)) (option_map (matched_as w.grain w.depth) (completed_by w.calls c)) _ e sizes)
+
+-- and else answered by the bytes of all calls
+init_is : (w : Inside) (c : Call) (o : Option Matched) → number_answer w.ranks c ≡ Ok tt → completed_answer (calls_of w) c ≡ Ok o
+    → init_answer (calls_of w) c ≡ (if nat_lt MAX_VOLUME (volume w.ledger + total c) then Err (WorldFull (volume w.ledger + total c)) else Ok (length w.ledger))
+init_is w c o numbers sizes =
+    rw (fault_none (number_fault w.ranks c) tt tt numbers, fault_none (size_fault (completed_by w.ledger c)) (option_map (matched_as w.grain w.depth) (completed_by w.ledger c)) o sizes) refl
+
+pub too_much : (w : Inside) (c : Call) (o : Option Matched) (n : ℕ) → number_answer w.ranks c ≡ Ok tt → completed_answer (calls_of w) c ≡ Ok o
+    → IsWorld w → n ≡ w.sum + total c → MAX_VOLUME < n → Err (WorldFull n) ≡ init_answer (calls_of w) c
+too_much w c o n numbers sizes s is over =
+    let e : n ≡ volume w.ledger + total c = is ∙ ap (λ k. k + total c) s.sum in
+    let test : nat_lt MAX_VOLUME (volume w.ledger + total c) ≡ true = lt-ltb _ _ (omega arith) in
+    rw (init_is w c o numbers sizes, test, e) refl
+
+pub accepted : (w : Inside) (c : Call) (o : Option Matched) (n slot : ℕ) → number_answer w.ranks c ≡ Ok tt → completed_answer (calls_of w) c ≡ Ok o
+    → IsWorld w → n ≡ w.sum + total c → n ≤ MAX_VOLUME → slot ≡ length w.ledger → Ok slot ≡ init_answer (calls_of w) c
+accepted w c o n slot numbers sizes s is under slot_is =
+    let e : n ≡ volume w.ledger + total c = is ∙ ap (λ k. k + total c) s.sum in
+    let test : nat_lt MAX_VOLUME (volume w.ledger + total c) ≡ false = le-ltb _ _ (omega arith) in
+    rw (init_is w c o numbers sizes, test, slot_is) refl
