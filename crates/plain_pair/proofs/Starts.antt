@@ -293,6 +293,44 @@ follows_start_send k n marks missing s is marks_are r st =
     let new : StandsFor (sent_as k n marks) (started_send r) = rw (marks_are, h.1) (stands_start_send k missing r s h.0 st) in
     (answer, rw next new)
 
+-- the object after an answered start of the receive is sound: nothing is taken in the new round
+pub sound_receiving : (k : Kept) (n : ℕ) (takes backs : List Bool) (missing : List ℕ) → IsSound k missing
+    → Ok n ≡ start_answer k.receiving k.received → takes ≡ replicate (length k.taken) false
+    → backs ≡ replicate (length k.back) false → IsSound (received_as k n takes backs) missing
+sound_receiving k n takes backs missing s is takes_are backs_are =
+    let h = start_ok k.receiving k.received n is in
+    let r = s.rounds in
+    let was = r.idle h.0 in
+    let few = r.received in
+    let other = h.2 in
+    let next = h.1 in
+    record {
+      shape = s.shape;
+      sizes = record {
+        marked_size = s.sizes.marked_size;
+        taken_size = ap length takes_are ∙ length-replicate _ _ ∙ s.sizes.taken_size;
+        back_size = ap length backs_are ∙ length-replicate _ _ ∙ s.sizes.back_size;
+        missing_size = s.sizes.missing_size;
+        buffers_size = s.sizes.buffers_size;
+        full = λ place q low high here. s.sizes.full place q low high (rw h.0 refl);
+      };
+      rounds = record {
+        sent = r.sent;
+        received = omega arith;
+        released = r.released;
+        begun = r.begun;
+        ahead = r.ahead;
+        idle_ahead = r.idle_ahead;
+        idle = λ e. absurd (false≢true (sym e));
+        busy = λ e. omega arith;
+      };
+      counts = s.counts;
+      whole = s.whole;
+      done = s.done;
+      arrived = λ busy q x inside taken place. absurd (false≢true (sym (has-none (length k.taken) q) ∙ ap (λ t. has t q) (sym takes_are) ∙ taken));
+      returned = λ q inside back. absurd (false≢true (sym (has-none (length k.back) q) ∙ ap (λ t. has t q) (sym backs_are) ∙ back));
+    }
+
 -- an answered start of the receive answers as each record says, and leaves the record with the start
 pub follows_start_recv : (k : Kept) (n : ℕ) (takes backs : List Bool) → Ok n ≡ start_answer k.receiving k.received
     → takes ≡ replicate (length k.taken) false → backs ≡ replicate (length k.back) false

@@ -1,4 +1,4 @@
-use Rattle.std.proofs.Common.{◌≡◌, None, sym, subst}
+use Rattle.std.proofs.Common.{◌≡◌, None, sym, subst, arith}
 use Rattle.plain_pair.specs.Pair.{kept_of}
 use Rattle.plain_pair.specs.Looking.{CanTake, kept_missing}
 use Rattle.plain_pair.proofs.Takes.{sound_take, takes, is_out}
@@ -20,3 +20,10 @@ pub returns-clause-out : goal.returns-clause-out
 returns-clause-out c =
     rw (c.add.ensures, c.take_at-buffer.ensures.left, c.new.ensures.value, c.take_at-buffer.ensures.taken, c.recv_place-index.ensures.place, ← c.self.view_is)
     (is_out (kept_of c.self.inside) _ c.args.q c.self.invariant (subst (λ k. CanTake k c.args.q) (sym c.self.view_is) c.requires.free))
+
+pub new-requires : goal.new-requires
+new-requires c =
+    let out = is_out (kept_of c.self.inside) _ c.args.q c.self.invariant (subst (λ k. CanTake k c.args.q) (sym c.self.view_is) c.requires.free) in
+    let size = out.size in
+    let small = c.self.invariant.shape.recv_bytes in
+    rw (c.take_at-buffer.ensures.taken, c.recv_place-index.ensures.place, ← c.self.view_is) (omega arith)
