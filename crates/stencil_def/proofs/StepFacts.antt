@@ -1,11 +1,15 @@
 -- A grid that is filled cell by cell with the new values. The cells are stored in the order of their places, and each
 -- leaves those before it as they were, so with the last one the grid is the next grid.
-use Rattle.std.proofs.Common.{◌≡◌, ◌∙◌, refl, sym, ap, ℕ, ◌+◌, ◌*◌, ◌/◌, ◌%◌, ◌<◌, length, ℤ, pos, get_or, set, map, arith, length-set, add-one, get_or-set_same, get_or-set_other}
-use Rattle.std.specs.List.{range_with_len}
+use Rattle.std.proofs.Common.{◌≡◌, ◌∙◌, refl, sym, ap, subst, ℕ, ◌+◌, ◌*◌, ◌/◌, ◌%◌, ◌<◌, ◌≤◌, List, length, replicate, ℤ, pos, get_or, set, map, arith, length-set, add-one, get_or-set_same, get_or-set_other}
+use Rattle.std.specs.List.{All, range_with_len}
 use Rattle.std.proofs.lemmas.List.FromFn.{fill_by_all, get_or-map-range_with_len}
+use Rattle.std.proofs.lemmas.List.{get_or_read, length-replicate}
+use Rattle.std.proofs.lemmas.List.Elements.{All-get_or, All-replicate, All-set}
 use Rattle.std.proofs.lemmas.Nat.{mul-add-lt, div-mul-add, mod-mul-add}
+use Rattle.stencil_def.specs.Limits.{IsSide, IsValue}
+use Rattle.stencil_def.specs.declared.limits.TheConstants.{MAX_CELLS}
 use Rattle.stencil_def.specs.declared.rule.Rule.{Rule}
-use Rattle.stencil_def.specs.Plane.{Plane, IsPlane, cell, with_cell}
+use Rattle.stencil_def.specs.Plane.{Plane, IsPlane, cell, plane_of, with_cell, zero_plane}
 use Rattle.stencil_def.specs.Step.{new_cell, next_plane, fold_plane}
 
 -- the new value of the k-th cell
@@ -33,6 +37,28 @@ filled-all g rule next f =
 pub place-inside : (g : Plane) (row col : ℕ) → row < g.rows → col < g.cols → row * g.cols + col < g.rows * g.cols
 place-inside g row col p q = let h = mul-add-lt row g.cols col g.rows p q in omega (arith, h)
 
+-- what stands at the place of a cell is its value
+pub cell-read : (g : Plane) (row col : ℕ) (x : ℤ) → IsPlane g → row < g.rows → col < g.cols → x ≡ get_or g.values (row * g.cols + col) x → x ≡ cell g row col
+cell-read g row col x plane p q is =
+    let h = place-inside g row col p q in let long = plane.length in
+    get_or_read g.values (row * g.cols + col) x (omega (arith, h, long)) is (pos 0)
+
+-- a cell's value is in range
+pub cell-limits : (g : Plane) (row col : ℕ) → IsPlane g → row < g.rows → col < g.cols → IsValue (cell g row col)
+cell-limits g row col plane p q =
+    let h = place-inside g row col p q in let long = plane.length in
+    All-get_or IsValue g.values (row * g.cols + col) (pos 0) (omega (arith, h, long)) plane.values
+
+-- a grid keeps its limits with another value in a cell
+pub set-limits : (g : Plane) (row col : ℕ) (value : ℤ) → IsPlane g → IsValue value → IsPlane (with_cell g row col value)
+set-limits g row col value plane fine = record {
+  rows = plane.rows;
+  cols = plane.cols;
+  cells = plane.cells;
+  length = length-set g.values (row * g.cols + col) value ∙ plane.length;
+  values = All-set IsValue g.values (row * g.cols + col) value fine plane.values;
+}
+
 -- a cell of the next grid holds its new value
 pub next-cells : (g : Plane) (rule : Rule) (row col : ℕ) → row < g.rows → col < g.cols
     → cell (next_plane g rule) row col ≡ new_cell g rule row col
@@ -42,6 +68,30 @@ next-cells g rule row col p q =
     let h : new_at g rule (row * g.cols + col) ≡ new_cell g rule row col =
     rw (div-mul-add row g.cols col q, mod-mul-add row g.cols col q) refl in
     at ∙ h
+
+-- a grid of zeros keeps the limits
+pub zero-limits : (rows cols : ℕ) (values : List ℤ) → IsSide rows → IsSide cols → rows * cols ≤ MAX_CELLS
+    → values ≡ replicate (rows * cols) (pos 0) → IsPlane (plane_of rows cols values)
+zero-limits rows cols values p q few is = record {
+  rows = p;
+  cols = q;
+  cells = few;
+  length = ap length is ∙ length-replicate (rows * cols) (pos 0);
+  values = subst (All IsValue) (sym is) (All-replicate IsValue (rows * cols) (pos 0) (omega arith));
+}
+
+-- at first no cell is filled
+pub filled-none : (g : Plane) (rule : Rule) (next : Plane) (rows cols : ℕ) → next ≡ zero_plane rows cols → rows ≡ g.rows → cols ≡ g.cols → IsPlane next → Filled g rule next (0 * g.cols)
+filled-none g rule next rows cols is e f plane =
+    let down = ap (λ (w : Plane). w.rows) is ∙ e in
+    let right = ap (λ (w : Plane). w.cols) is ∙ f in
+    record {
+      rows = down;
+      cols = right;
+      length = plane.length ∙ (ap (λ n. n * next.cols) down ∙ ap (λ n. g.rows * n) right);
+      plane = plane;
+      done = λ k h. absurd (omega (arith, h));
+    }
 
 -- once the cell behind the filled ones is set to its new value, one more cell is filled
 pub filled-more : (g : Plane) (rule : Rule) (next after : Plane) (row col : ℕ) (value : ℤ) → row < g.rows → col < g.cols
