@@ -1,8 +1,10 @@
 -- The places of a part: what stands among cells that were put into a row, and what stays at any other place.
-use Rattle.std.proofs.Common.{◌≡◌, ◌∙◌, refl, sym, ap, ℕ, ◌+◌, ◌-◌, ◌*◌, ◌<◌, ◌≤◌, ℤ, pos, List, ◌++◌, length, take, drop, length-take-le, get_or, arith, inl, inr}
-use Rattle.std.specs.Prelude.{◌⊎◌}
+use Rattle.std.proofs.Common.{◌≡◌, ◌∙◌, refl, sym, ap, subst, ℕ, ◌+◌, ◌-◌, ◌*◌, ◌<◌, ◌≤◌, ℤ, pos, List, ◌++◌, length, take, drop, length-take-le, get_or, arith}
+use Rattle.std.specs.List.{All}
+use Rattle.std.proofs.lemmas.List.Elements.{All-drop, All-take}
 use Rattle.std.proofs.lemmas.Nat.{mul-le}
 use Rattle.std.proofs.lemmas.List.{get_or_append_left, get_or-take, get_or-append_right, get_or-drop}
+use Rattle.stencil_def.specs.Limits.{IsValue}
 use Rattle.cell_lanes.specs.Block.{Part, IsPart, at, cells_at, height, own_cells, width, with_cells}
 use Rattle.cell_lanes.proofs.RowFacts.{part-at}
 use Rattle.cell_lanes.proofs.WindowFacts.{below-or}
@@ -63,3 +65,10 @@ with-other b y x r i cells room fits less apart =
     (λ a. below-or i (x + n)
     (λ l. absurd (apart same a l))
     (λ k. with-behind (y * w + x) n (r * w + i) b.values cells room refl (omega arith)))))
+
+-- some values of a row, as the code cuts them
+pub cut-room : (b : Part) (y x len : ℕ) → IsPart b → y < height b → x + len ≤ width b → y * width b + x + len ≤ length b.values
+cut-room b y x len s less fits = let h = row-room b y (x + len) s less fits in omega (arith, h)
+
+pub cut-limits : (values xs : List ℤ) (start k : ℕ) → xs ≡ values → All IsValue values → All IsValue (take k (drop start xs))
+cut-limits values xs start k same fine = All-take IsValue k (drop start xs) (All-drop IsValue start xs (subst (All IsValue) (sym same) fine))

@@ -65,3 +65,19 @@ returns-clause-fold c =
     subst (λ xs. IsPadded (cell last) rule rows cols xs) (sym c.deref-2.ensures.value) c.loop-step.invariant.padded in
     if-ok _ (λ grid. grid ≡ fold_plane g rule c.args.steps) c.middle.result
     (λ grid h. h last (fold-rows g rule c.loop-step._step ∙ e) (fold-cols g rule c.loop-step._step ∙ f) size now ∙ ap (fold_plane g rule) end) c.middle.ensures.cells
+
+pub next_padded-requires-clause-length : goal.next_padded-requires-clause-length
+next_padded-requires-clause-length c = ap length c.deref.ensures.value ∙ c.loop-step.invariant.last_length
+
+pub next_padded-requires-clause-same_length : goal.next_padded-requires-clause-same_length
+next_padded-requires-clause-same_length c =
+    ap length c.deref_mut.ensures.value ∙ (c.loop-step.invariant.next_length ∙ sym (ap length c.deref.ensures.value))
+
+pub middle-requires-clause-cells : goal.middle-requires-clause-cells
+middle-requires-clause-cells c =
+    let same = ap (λ n. n * c.cols-cols.result) c.rows-rows.ensures.value ∙ ap (λ n. c.args.grid.now.rows * n) c.cols-cols.ensures.value in
+    let few = c.rows-rows.ensures.limits.cells in
+    omega (arith, same, few)
+
+pub middle-requires-clause-length : goal.middle-requires-clause-length
+middle-requires-clause-length c = ap length c.deref-2.ensures.value ∙ c.loop-step.invariant.last_length

@@ -87,3 +87,19 @@ returns-clause-fold c =
     let size : length last.values ≡ c.rows-rows.result * c.cols-cols.result = fold-length g rule n c.rows-rows.ensures.limits ∙ (ap (λ k. k * g.cols) e ∙ ap (λ k. c.rows-rows.result * k) f) in
     c.in_ok-grid.ensures.cells last (fold-rows g rule n ∙ e) (fold-cols g rule n ∙ f) size
     (subst (λ xs. IsPadded (cell last) rule c.rows-rows.result c.cols-cols.result xs) (sym c.deref-2.ensures.value) c.loop-goes_on.invariant.padded)
+
+pub next_padded_changed-most-requires-clause-length : goal.next_padded_changed-most-requires-clause-length
+next_padded_changed-most-requires-clause-length c = ap length c.deref.ensures.value ∙ c.loop-goes_on.invariant.last_length
+
+pub next_padded_changed-most-requires-clause-same_length : goal.next_padded_changed-most-requires-clause-same_length
+next_padded_changed-most-requires-clause-same_length c =
+    ap length c.deref_mut.ensures.value ∙ (c.loop-goes_on.invariant.next_length ∙ sym (ap length c.deref.ensures.value))
+
+pub middle-requires-clause-cells : goal.middle-requires-clause-cells
+middle-requires-clause-cells c =
+    let same = ap (λ n. n * c.cols-cols.result) c.rows-rows.ensures.value ∙ ap (λ n. c.args.grid.now.rows * n) c.cols-cols.ensures.value in
+    let few = c.rows-rows.ensures.limits.cells in
+    omega (arith, same, few)
+
+pub middle-requires-clause-length : goal.middle-requires-clause-length
+middle-requires-clause-length c = ap length c.deref-2.ensures.value ∙ c.loop-goes_on.invariant.last_length
