@@ -72,3 +72,8 @@ cut-room b y x len s less fits = let h = row-room b y (x + len) s less fits in o
 
 pub cut-limits : (values xs : List ℤ) (start k : ℕ) → xs ≡ values → All IsValue values → All IsValue (take k (drop start xs))
 cut-limits values xs start k same fine = All-take IsValue k (drop start xs) (All-drop IsValue start xs (subst (All IsValue) (sym same) fine))
+
+-- a whole row stands among the values
+pub row-fits : (rows cols w y to size : ℕ) → y < to → to ≤ rows → w ≡ cols → size ≡ rows * cols → y * w + w ≤ size
+row-fits rows cols w y to size less end wide long =
+    let m = mul-le (y + 1) w rows cols (omega arith) (omega arith) in omega (arith, m, long)

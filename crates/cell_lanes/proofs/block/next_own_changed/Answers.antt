@@ -1,7 +1,8 @@
-use Rattle.std.proofs.Common.{to_z, w64, arith}
+use Rattle.std.proofs.Common.{◌≡◌, ◌∙◌, ap, pos, to_z, w64, arith}
 use Rattle.std.proofs.lemmas.Int.{ints}
 use Rattle.stencil_def.specs.Step.{next_plane}
 use Rattle.cell_lanes.specs.Block.{part_of}
+use Rattle.cell_lanes.specs.Change.{change_within}
 use Rattle.cell_lanes.proofs.BlockFacts.{own-held}
 use Rattle.cell_lanes.proofs.ChangeFacts.{change-kept, change-more, rows-none}
 use Rattle.cell_lanes.proofs.block.next_own_changed.Goals as goal
@@ -32,3 +33,26 @@ loop-row-preserved c =
       range = change-kept most c.row_change.result c.max-most.result i.range row.limits c.max-most.ensures;
       limits = c.next_own_row.ensures.limits;
     }
+
+pub next_own_row-requires-clause-part : goal.next_own_row-requires-clause-part
+next_own_row-requires-clause-part c = c.requires.part
+
+pub next_own_row-requires-clause-next : goal.next_own_row-requires-clause-next
+next_own_row-requires-clause-next c = c.loop-row.invariant.limits
+
+pub row_change-requires-clause-old : goal.row_change-requires-clause-old
+row_change-requires-clause-old c = c.requires.part
+
+pub row_change-requires-clause-new : goal.row_change-requires-clause-new
+row_change-requires-clause-new c = c.next_own_row.ensures.limits
+
+-- all rows are done
+pub returns-clause-own : goal.returns-clause-own
+returns-clause-own c g rule top left weights div holds inside row col less l =
+    c.loop-row.invariant.own g rule top left weights div holds inside row col (omega (arith, less, c.loop-row-test.false)) l
+
+pub returns-clause-change : goal.returns-clause-change
+returns-clause-change c g rule top left weights div holds inside =
+    let all : c.loop-row.row ≡ c.args.rows = let h = c.loop-row-test.false in let k = c.loop-row.auto.row-end in omega arith in
+    c.loop-row.invariant.change g rule top left weights div holds inside
+    ∙ ap (λ n. pos (change_within g (next_plane g rule) top n left c.args.cols)) all

@@ -1,9 +1,11 @@
 use Rattle.std.proofs.Common.{◌≡◌, ◌∙◌, refl, sym, ap, ◌+◌, ◌-◌, ◌*◌, ℤ, List, int_div, length, arith}
+use Rattle.std.proofs.lemmas.Nat.{mul-le}
 use Rattle.stencil_def.specs.Step.{clamped, next_plane}
 use Rattle.cell_lanes.specs.Block.{part_of}
 use Rattle.cell_lanes.specs.Window.{sum_at}
 use Rattle.cell_lanes.proofs.RowFacts.{part-length}
 use Rattle.cell_lanes.proofs.BlockFacts.{length-put, limits-put, new-cell-at, own-next, own-room, window-cut}
+use Rattle.cell_lanes.proofs.PlaceFacts.{cut-limits}
 use Rattle.cell_lanes.proofs.block.next_own_row.Goals as goal
 
 pub returns-clause-own : goal.returns-clause-own
@@ -29,3 +31,39 @@ returns-clause-limits c =
     let size : k ≡ a.cols = omega arith in
     limits-put a.rows a.cols a.reach start k a.next.now c.new_cells.new.out c.requires.next c.new_cells.ensures.limits
     (length-put start k a.next.now c.new_cells.new.out (omega arith) (c.new_cells.auto.out ∙ part ∙ sym size))
+
+-- the window's rows are among those of the part
+pub slice_bounds-window-end : goal.slice_bounds-window-end
+slice_bounds-window-end c =
+    let a = c.args in
+    let w = a.cols + 2 * a.reach in
+    let less = c.requires.row in
+    let m = mul-le (a.row + (2 * a.reach + 1)) w (a.rows + 2 * a.reach) w (omega (arith, less)) (omega arith) in
+    let long = c.requires.part.length in
+    omega (arith, m, long)
+
+pub slice_bounds-cells-end : goal.slice_bounds-cells-end
+slice_bounds-cells-end c =
+    let a = c.args in
+    let room = own-room a.rows a.cols a.reach a.row a.next.now c.requires.next c.requires.row in
+    omega (arith, room)
+
+pub new_cells-requires-clause-window : goal.new_cells-requires-clause-window
+new_cells-requires-clause-window c =
+    let a = c.args in
+    let w = a.cols + 2 * a.reach in
+    let less = c.requires.row in
+    let m = mul-le (a.row + (2 * a.reach + 1)) w (a.rows + 2 * a.reach) w (omega (arith, less)) (omega arith) in
+    let long = c.requires.part.length in
+    part-length a.values.now (a.row * w) ((2 * a.reach + 1) * w) (omega (arith, m, long)) ∙ ap (λ k. (2 * k + 1) * w) (sym c.requires.reach)
+
+pub new_cells-requires-clause-values : goal.new_cells-requires-clause-values
+new_cells-requires-clause-values c =
+    let s = c.requires.part in cut-limits c.args.values.now c.args.values.now _ _ refl s.values
+
+pub new_cells-requires-clause-out : goal.new_cells-requires-clause-out
+new_cells-requires-clause-out c =
+    let a = c.args in
+    let room = own-room a.rows a.cols a.reach a.row a.next.now c.requires.next c.requires.row in
+    let size = part-length a.next.now ((a.reach + a.row) * (a.cols + 2 * a.reach) + a.reach) a.cols room in
+    ap (λ n. n + 2 * a.weights.now.reach) size ∙ ap (λ k. a.cols + 2 * k) c.requires.reach
