@@ -9,7 +9,7 @@ use Rattle.stencil_def.specs.declared.rule.Rule.{Rule}
 use Rattle.stencil_def.specs.Limits.{IsValue}
 use Rattle.std.specs.Simd.Lanes.{chunk}
 use Rattle.std.proofs.lemmas.Simd.{get_or-chunk}
-use Rattle.stencil_def.specs.Plane.{Plane, IsPlane, cell, row_of}
+use Rattle.stencil_def.specs.Plane.{Plane, IsPlane, cell, row_of, with_cell}
 use Rattle.stencil_def.specs.Square.{side, weight}
 use Rattle.stencil_def.specs.Step.{place, read, cell_or, sum_below, weighted, window_sum, clamped, new_cell}
 use Rattle.cell_lanes.specs.Window.{met, row_sum_at, sum_at}
@@ -293,3 +293,24 @@ pub plane-same : (g grid : Plane) → grid.rows ≡ g.rows → grid.cols ≡ g.c
 plane-same g grid rows cols long each =
     let values = ext_get_or (pos 0) grid.values g.values long each in
     (λ i. record { rows = rows i; cols = cols i; values = values i })
+
+-- with the next of the values in its cell, one more cell of the row is taken
+pub row-taken-next : (old grid new : Plane) (row n : ℕ) (cells : List ℤ) (value : ℤ) → RowTaken old grid row n cells → row < old.rows → n < old.cols
+    → value ≡ get_or cells n (pos 0) → new ≡ with_cell grid row n value → IsPlane new → RowTaken old new row (n + 1) cells
+row-taken-next old grid new row n cells value t p q e is plane =
+    let place = row * old.cols + n in
+    let at : row * grid.cols + n ≡ place = ap (λ k. row * k + n) t.cols in
+    let s = t.plane in
+    let m = mul-add-lt row grid.cols n grid.rows (omega (arith, p, t.rows)) (omega (arith, q, t.cols)) in
+    let room : place < length grid.values = omega (arith, m, s.length, at) in
+    let values : new.values ≡ set grid.values place value = ap (λ (w : Plane). w.values) is ∙ ap (λ k. set grid.values k value) at in
+    record {
+      rows = ap (λ (w : Plane). w.rows) is ∙ t.rows;
+      cols = ap (λ (w : Plane). w.cols) is ∙ t.cols;
+      plane = plane;
+      done = rw values (λ k h. below-or k n
+          (λ l. get_or-set_other grid.values place (row * old.cols + k) value (pos 0) (λ same. omega (arith, same, l)) ∙ t.done k l)
+          (λ l. let same : n ≡ k = omega (arith, h, l) in
+          ap (λ j. get_or (set grid.values place value) (row * old.cols + j) (pos 0)) (sym same) ∙ (get_or-set_same grid.values place value (pos 0) room ∙ (e ∙ ap (λ j. get_or cells j (pos 0)) same))));
+      below = rw values (λ k h. get_or-set_other grid.values place k value (pos 0) (λ same. omega (arith, same, h)) ∙ t.below k h);
+    }

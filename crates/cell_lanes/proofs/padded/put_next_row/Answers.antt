@@ -3,6 +3,8 @@ use Rattle.std.proofs.lemmas.Nat.{mul-le}
 use Rattle.stencil_def.specs.Step.{new_cell}
 use Rattle.cell_lanes.specs.Padding.{with_ends}
 use Rattle.cell_lanes.proofs.PaddedFacts.{rows-next, start-is, start-room, next-row-is, window-is, all-put}
+use Rattle.cell_lanes.proofs.RowFacts.{part-length}
+use Rattle.cell_lanes.proofs.PlaceFacts.{cut-limits}
 use Rattle.cell_lanes.proofs.padded.put_next_row.Goals as goal
 
 pub returns-clause-rows : goal.returns-clause-rows
@@ -46,3 +48,32 @@ slice_bounds-place-end c =
     let m = mul-le (rule.weights.reach + c.args.row + 1) (with_ends rule c.args.cols) (with_ends rule c.args.rows) (with_ends rule c.args.cols) (omega (arith, few)) (omega arith) in
     let long = c.requires.same_length ∙ c.requires.length in
     omega (arith, m, start, long, r)
+
+pub next_row-requires-clause-window : goal.next_row-requires-clause-window
+next_row-requires-clause-window c =
+    let rule = c.args.rule.now in
+    let r = c.reach-reach.ensures.value in
+    let above : c.start_of-above.result ≡ c.args.row * with_ends rule c.args.cols =
+    c.start_of-above.ensures ∙ ap (λ k. c.args.row * (c.args.cols + 2 * k)) r in
+    let count : c.start_of.result ≡ (2 * rule.weights.reach + 1) * with_ends rule c.args.cols =
+    c.start_of.ensures ∙ ap (λ k. (2 * k + 1) * (c.args.cols + 2 * k)) r in
+    let few = c.requires.row in
+    let m = mul-le (c.args.row + (2 * rule.weights.reach + 1)) (with_ends rule c.args.cols) (with_ends rule c.args.rows) (with_ends rule c.args.cols) (omega (arith, few)) (omega arith) in
+    let long = c.requires.length in
+    part-length c.args.values.now c.start_of-above.result c.start_of.result (omega (arith, m, above, count, long)) ∙ count
+
+pub next_row-requires-clause-values : goal.next_row-requires-clause-values
+next_row-requires-clause-values c = cut-limits c.args.values.now c.args.values.now _ _ refl c.requires.values
+
+pub next_row-requires-clause-row : goal.next_row-requires-clause-row
+next_row-requires-clause-row c =
+    let rule = c.args.rule.now in
+    let r = c.reach-reach.ensures.value in
+    let start = start-is rule c.args.row c.reach-reach.result c.args.cols c.args.cols c.start_of-start.result c.start_of-start.ensures r refl in
+    let few = c.requires.row in
+    let m = mul-le (rule.weights.reach + c.args.row + 1) (with_ends rule c.args.cols) (with_ends rule c.args.rows) (with_ends rule c.args.cols) (omega (arith, few)) (omega arith) in
+    let long = c.requires.same_length ∙ c.requires.length in
+    part-length c.args.next.now c.start_of-start.result (c.args.cols + 2 * c.reach-reach.result) (omega (arith, m, start, long, r)) ∙ ap (λ k. c.args.cols + 2 * k) r
+
+pub next_row-requires-clause-old : goal.next_row-requires-clause-old
+next_row-requires-clause-old c = cut-limits c.args.next.now c.args.next.now _ _ refl c.requires.next_values

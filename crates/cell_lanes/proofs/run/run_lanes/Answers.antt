@@ -1,6 +1,6 @@
 use Rattle.std.proofs.Common.{◌≡◌, ◌∙◌, ◌+◌, ◌*◌, ◌<◌, sym, ap, subst, length, arith}
 use Rattle.std.specs.List.{All}
-use Rattle.stencil_def.specs.Limits.{IsValue}
+use Rattle.stencil_def.specs.Limits.{IsSide, IsValue}
 use Rattle.stencil_def.specs.Plane.{cell}
 use Rattle.cell_lanes.specs.Padding.{IsPadded}
 use Rattle.stencil_def.specs.Step.{fold_plane}
@@ -81,3 +81,30 @@ middle-requires-clause-cells c =
 
 pub middle-requires-clause-length : goal.middle-requires-clause-length
 middle-requires-clause-length c = ap length c.deref-2.ensures.value ∙ c.loop-step.invariant.last_length
+
+pub next_padded-requires-clause-rows : goal.next_padded-requires-clause-rows
+next_padded-requires-clause-rows c = let p = c.rows-rows.ensures.limits in subst IsSide (sym c.rows-rows.ensures.value) p.rows
+
+pub next_padded-requires-clause-cols : goal.next_padded-requires-clause-cols
+next_padded-requires-clause-cols c = let p = c.cols-cols.ensures.limits in subst IsSide (sym c.cols-cols.ensures.value) p.cols
+
+pub next_padded-requires-clause-values : goal.next_padded-requires-clause-values
+next_padded-requires-clause-values c = subst (All IsValue) (sym c.deref.ensures.value) c.loop-step.invariant.last_values
+
+pub next_padded-requires-clause-next_values : goal.next_padded-requires-clause-next_values
+next_padded-requires-clause-next_values c = subst (All IsValue) (sym c.deref_mut.ensures.value) c.loop-step.invariant.next_values
+
+pub next_padded-requires-clause-weights : goal.next_padded-requires-clause-weights
+next_padded-requires-clause-weights c = c.new-weights.ensures
+
+pub middle-requires-clause-rows : goal.middle-requires-clause-rows
+middle-requires-clause-rows c = let p = c.rows-rows.ensures.limits in subst IsSide (sym c.rows-rows.ensures.value) p.rows
+
+pub middle-requires-clause-cols : goal.middle-requires-clause-cols
+middle-requires-clause-cols c = let p = c.cols-cols.ensures.limits in subst IsSide (sym c.cols-cols.ensures.value) p.cols
+
+pub middle-requires-clause-values : goal.middle-requires-clause-values
+middle-requires-clause-values c = subst (All IsValue) (sym c.deref-2.ensures.value) c.loop-step.invariant.last_values
+
+pub returns-clause-limits : goal.returns-clause-limits
+returns-clause-limits c = c.middle.ensures.limits
