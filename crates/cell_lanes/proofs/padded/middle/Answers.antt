@@ -2,6 +2,9 @@ use Rattle.std.proofs.Common.{◌≡◌, ◌∙◌, ◌+◌, ◌-◌, ◌*◌, r
 use Rattle.std.proofs.lemmas.Nat.{mul-le}
 use Rattle.cell_lanes.specs.Padding.{with_ends}
 use Rattle.cell_lanes.proofs.PaddedFacts.{taken-next, start-is, plane-same}
+use Rattle.cell_lanes.proofs.RowFacts.{part-length}
+use Rattle.cell_lanes.proofs.PlaceFacts.{cut-limits}
+use Rattle.stencil_def.specs.Plane.{Plane}
 use Rattle.cell_lanes.proofs.padded.middle.Goals as goal
 
 pub loop-row-preserved : goal.loop-row-preserved
@@ -44,3 +47,27 @@ slice_bounds-set_row-end c =
     let m = mul-le (rule.weights.reach + c.loop-row.row + 1) (with_ends rule c.args.cols) (with_ends rule c.args.rows) (with_ends rule c.args.cols) (omega (arith, few)) (omega arith) in
     let long = c.requires.length in
     omega (arith, m, start, long, r)
+
+pub loop-row-init : goal.loop-row-init
+loop-row-init c = record {
+  rows = ap (λ (w : Plane). w.rows) c.in_ok-grid.ensures.zeros;
+  cols = ap (λ (w : Plane). w.cols) c.in_ok-grid.ensures.zeros;
+  plane = c.in_ok-grid.ensures.limits;
+  taken = λ g e padded k h. absurd (omega (arith, h));
+}
+
+pub set_row-requires-clause-row : goal.set_row-requires-clause-row
+set_row-requires-clause-row c = omega (arith, c.loop-row.invariant.rows, c.loop-row-test.true)
+
+pub set_row-requires-clause-length : goal.set_row-requires-clause-length
+set_row-requires-clause-length c =
+    let rule = c.args.rule.now in
+    let r = c.reach-reach.ensures.value in
+    let start = start-is rule c.loop-row.row c.reach-reach.result c.args.cols c.args.cols c.start_of.result c.start_of.ensures r refl in
+    let few = c.loop-row-test.true in
+    let m = mul-le (rule.weights.reach + c.loop-row.row + 1) (with_ends rule c.args.cols) (with_ends rule c.args.rows) (with_ends rule c.args.cols) (omega (arith, few)) (omega arith) in
+    let long = c.requires.length in
+    part-length c.args.values.now (c.start_of.result + c.reach-reach.result) c.args.cols (omega (arith, m, start, long, r)) ∙ sym c.loop-row.invariant.cols
+
+pub set_row-requires-clause-values : goal.set_row-requires-clause-values
+set_row-requires-clause-values c = cut-limits c.args.values.now c.args.values.now _ _ refl c.requires.values
