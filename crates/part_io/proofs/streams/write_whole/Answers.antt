@@ -21,3 +21,19 @@ loop-preserved g c =
       | in-Ok w ↦ rw w.done-is (omega (arith, w.in-Ok.ensures.bound), longer_front _ _ _ c.args.piece.now _ _ added w.in-Ok.ensures.bytes)
       | in-Err+else-ne w ↦ rw w.done-is (within, Appends-kept _ _ _ _ added w.in-Err.ensures.bytes)
     ]
+
+pub returns-in-Ok-eq0-clause-err : goal.returns-in-Ok-eq0-clause-err
+returns-in-Ok-eq0-clause-err g c =
+    let (within, added) = c.loop.invariant in (
+      c.loop.done + c.in-Ok-eq0.field-0,
+      omega (arith, c.in-Ok-eq0.field-0-test),
+      longer_front _ _ _ c.args.piece.now _ _ added c.in-Ok-eq0.ensures.bytes,
+    )
+
+pub returns-then-ne-clause-err : goal.returns-then-ne-clause-err
+returns-then-ne-clause-err g c =
+    let (within, added) = c.loop.invariant in
+    (c.loop.done, within, Appends-kept _ _ _ _ added c.in-Err.ensures.bytes)
+
+pub returns-clause-err : goal.returns-clause-err
+returns-clause-err g c = (c.loop.done, c.loop.invariant.0, c.loop.invariant.1)
