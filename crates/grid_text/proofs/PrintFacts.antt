@@ -1,6 +1,6 @@
 -- One more number of a row, one more row, and one more cell: what the first i make, with the part of the next behind
 -- it, is what the first i + 1 make.
-use Rattle.std.proofs.Common.{◌≡◌, ℕ, zero, suc, ◌+◌, ◌*◌, ◌^◌, ◌<◌, ◌≤◌, false, ℤ, pos, ◌+ℤ◌, ◌*ℤ◌, unsigned_abs, to_z, of_z, List, [], ◌∷◌, ◌++◌, length, map, take, get_or, refl, sym, ap, ◌∙◌, arith, append_assoc}
+use Rattle.std.proofs.Common.{◌≡◌, ℕ, zero, suc, ◌+◌, ◌*◌, ◌^◌, ◌<◌, ◌≤◌, false, ℤ, pos, ◌+ℤ◌, ◌*ℤ◌, unsigned_abs, to_z, of_z, List, [], ◌∷◌, ◌++◌, length, map, take, get_or, fold, refl, sym, ap, ◌∙◌, arith, append_assoc}
 use mir.Syntax.{w128}
 use Rattle.std.proofs.Math.Nat.{mul-le-mul_left}
 use Rattle.std.specs.Prelude.{◌==◌, codes}
@@ -56,6 +56,11 @@ pub rows-more : (piece : ℕ → List ℕ) (n : ℕ) → flat_map piece (range_w
 rows-more piece n =
     let e : 0 + n ≡ n = omega arith in
     ap (flat_map piece) (range-more 0 n) ∙ (flat_map-append piece (range_with_len 0 n) ((0 + n) ∷ []) ∙ rw e (ap (λ (back : List ℕ). flat_map piece (range_with_len 0 n) ++ back) (append-nil (piece n))))
+
+-- one more value of a fold
+pub fold-more : (f : ℤ → ℤ → ℤ) (start : ℤ) (values : List ℤ) (i : ℕ) → i < length values
+    → fold f start (take (i + 1) values) ≡ f (fold f start (take i values)) (get_or values i (pos 0))
+fold-more f start values i h = rw (take_more values i (pos 0) h) (fold_push f start (take i values) (get_or values i (pos 0)))
 
 -- one more cell of the check sum
 pub check-more : (values : List ℤ) (i : ℕ) → i < length values

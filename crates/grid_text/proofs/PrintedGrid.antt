@@ -59,7 +59,7 @@ below g k n h m =
     let more = mul-le (k + 1) g.cols n g.cols (omega arith) (omega arith) in
     omega arith
 
-row-length : (g : Plane) (k : ℕ) → IsPlane g → k < g.rows → length (row_of g k) ≡ g.cols
+pub row-length : (g : Plane) (k : ℕ) → IsPlane g → k < g.rows → length (row_of g k) ≡ g.cols
 row-length g k h n =
     let room = below g k g.rows n (omega arith) in
     let all = h.length in

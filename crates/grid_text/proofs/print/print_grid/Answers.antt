@@ -1,8 +1,8 @@
 use Rattle.grid_text.specs.Printing.{grid_text, row_text}
 use Rattle.stencil_def.specs.Plane.{row_of}
-use Rattle.std.proofs.Common.{arith, ◌≡◌, ◌∙◌, ap, List, ℕ, ◌++◌, sym}
+use Rattle.std.proofs.Common.{arith, ◌≡◌, ◌∙◌, ap, List, ℕ, ◌++◌, length, sym}
 use Rattle.grid_text.proofs.PrintFacts.{rows-more}
-use Rattle.grid_text.proofs.PrintedGrid.{grid-back}
+use Rattle.grid_text.proofs.PrintedGrid.{grid-back, row-length}
 use Rattle.grid_text.proofs.print.print_grid.Goals as goal
 
 pub loop-row-preserved : goal.loop-row-preserved
@@ -19,3 +19,15 @@ returns-clause-text c =
 
 pub returns-clause-back : goal.returns-clause-back
 returns-clause-back c = rw (returns-clause-text c) (grid-back c.args.grid.now c.values.ensures.limits)
+
+pub overflow_mul-least : goal.overflow_mul-least
+overflow_mul-least c =
+    let limits = c.values.ensures.limits in
+    omega (arith, ap length c.values.ensures.values, limits.length, limits.cells)
+
+pub push_row-requires : goal.push_row-requires
+push_row-requires c =
+    let limits = c.row.ensures.limits in
+    let within = c.rows-row-end.ensures.value in
+    let len = row-length c.args.grid.now c.loop-row.row limits (omega arith) in
+    omega (arith, ap length c.row.ensures.values, len, limits.cols.0)
