@@ -22,14 +22,6 @@ loop-preserved g c =
       | in-Err+else-ne w ↦ rw w.done-is (within, Appends-kept _ _ _ _ added w.in-Err.ensures.bytes)
     ]
 
-pub returns-in-Ok-eq0-clause-err : goal.returns-in-Ok-eq0-clause-err
-returns-in-Ok-eq0-clause-err g c =
-    let (within, added) = c.loop.invariant in (
-      c.loop.done + c.in-Ok-eq0.field-0,
-      omega (arith, c.in-Ok-eq0.field-0-test),
-      longer_front _ _ _ c.args.piece.now _ _ added c.in-Ok-eq0.ensures.bytes,
-    )
-
 pub returns-then-ne-clause-err : goal.returns-then-ne-clause-err
 returns-then-ne-clause-err g c =
     let (within, added) = c.loop.invariant in
