@@ -1,3 +1,4 @@
 pub mod Pairs
 pub mod Arguments
 pub mod Faults
+pub mod Numbers
