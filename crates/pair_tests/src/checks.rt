@@ -120,22 +120,22 @@ fn a_walk_tells_what_each_event_did(rt: HostRuntime) {
     // The claim word is 0, the take word 2, the return word 3, and the piece word 4. A take that isn't allowed leaves
     // the walk as it was: after the look it is.
     let steps = [
-        (event(0, 1, 4, 1, 0), quiet),
-        (event(0, 2, 0, 1, 0), quiet),
-        (event(2, 3, 0, 0, 0), quiet),
-        (event(2, 7, 0, 0, 0), quiet),
-        (event(2, 8, 4, 0, 0), sent),
-        (event(1, 9, 3, 1, 0), quiet),
-        (event(1, 10, 2, 1, 0), quiet),
-        (event(1, 11, 2, 0, 0), Err(WalkFault::NotAllowed)),
-        (event(1, 4, 4, 0, 0), quiet),
-        (event(1, 11, 2, 0, 0), taken),
-        (event(1, 11, 2, 0, 0), Err(WalkFault::NotAllowed)),
-        (event(66, 3, 0, 0, 0), quiet),
-        (event(2, 14, 0, 0, 0), Err(WalkFault::NotAllowed)),
+        ([0, 1, 4, 1, 0], quiet),
+        ([0, 2, 0, 1, 0], quiet),
+        ([2, 3, 0, 0, 0], quiet),
+        ([2, 7, 0, 0, 0], quiet),
+        ([2, 8, 4, 0, 0], sent),
+        ([1, 9, 3, 1, 0], quiet),
+        ([1, 10, 2, 1, 0], quiet),
+        ([1, 11, 2, 0, 0], Err(WalkFault::NotAllowed)),
+        ([1, 4, 4, 0, 0], quiet),
+        ([1, 11, 2, 0, 0], taken),
+        ([1, 11, 2, 0, 0], Err(WalkFault::NotAllowed)),
+        ([66, 3, 0, 0, 0], quiet),
+        ([2, 14, 0, 0, 0], Err(WalkFault::NotAllowed)),
     ];
-    for (event, wanted) in steps {
-        assert_eq!(rt; walk.apply(&event), wanted);
+    for (n, wanted) in steps {
+        assert_eq!(rt; walk.apply(&event(n)), wanted);
     }
 }
 

@@ -4,14 +4,14 @@ use pair_core::{Applied, CoreState, Event, Replay, Step, replay, step};
 use part_geometry::Geometry;
 use std::process::Abort;
 
-/// A step of a seat on a word, in a round or of a partition.
-pub(crate) fn event(seat: u32, kind: u32, word: u32, round: u32, partition: u32) -> Event {
+/// An event of five numbers: a seat's step of a kind on a word, in a round or of a partition.
+pub(crate) fn event(n: [u32; 5]) -> Event {
     Event {
-        seat,
-        kind,
-        word,
-        round,
-        partition,
+        seat: n[0],
+        kind: n[1],
+        word: n[2],
+        round: n[3],
+        partition: n[4],
     }
 }
 
@@ -30,67 +30,63 @@ pub(crate) fn two_and_one<R: Abort>(rt: &R) -> Geometry {
     Geometry::new(2, 1, 1, 2, 1, 2).expect(rt, "within the limits")
 }
 
-/// The first round of that pair up to its shutting, by the send side, the markers 2 and 4, the watcher 3 and the
-/// receive side. Marker 4 loses an exchange to marker 2, and then gets its partition.
-fn first_round() -> [Event; 21] {
+/// The numbers of both rounds of that pair. The first goes up to its shutting, by the send side, the markers 2 and 4,
+/// the watcher 3 and the receive side; marker 4 loses an exchange to marker 2, and then gets its partition. The second
+/// opens before the first is released, and goes up to its release and its shutting.
+fn both_numbers() -> [[u32; 5]; 42] {
     [
-        event(0, 1, 6, 1, 0),
-        event(0, 1, 7, 1, 0),
-        event(0, 2, 0, 1, 0),
-        event(2, 3, 0, 0, 0),
-        event(4, 3, 0, 0, 0),
-        event(2, 7, 0, 0, 1),
-        event(4, 7, 0, 0, 0),
-        event(4, 7, 0, 0, 0),
-        event(2, 8, 7, 0, 1),
-        event(3, 4, 7, 0, 0),
-        event(4, 8, 6, 0, 0),
-        event(1, 9, 3, 1, 0),
-        event(1, 10, 2, 1, 0),
-        event(1, 4, 6, 0, 0),
-        event(1, 4, 7, 0, 0),
-        event(1, 11, 2, 0, 0),
-        event(3, 4, 6, 0, 0),
-        event(0, 3, 0, 0, 0),
-        event(0, 4, 6, 0, 0),
-        event(0, 4, 7, 0, 0),
-        event(0, 6, 0, 0, 0),
-    ]
-}
-
-/// The second round, which opens before the first is released, up to its release and its shutting.
-fn second_round() -> [Event; 21] {
-    [
-        event(0, 1, 4, 2, 0),
-        event(0, 1, 5, 2, 0),
-        event(0, 2, 0, 2, 0),
-        event(2, 3, 0, 0, 0),
-        event(2, 7, 0, 0, 0),
-        event(2, 8, 4, 0, 0),
-        event(2, 7, 0, 0, 1),
-        event(2, 8, 5, 0, 1),
-        event(1, 12, 3, 0, 0),
-        event(1, 13, 1, 1, 0),
-        event(1, 9, 3, 2, 0),
-        event(1, 10, 2, 2, 0),
-        event(1, 4, 4, 0, 0),
-        event(1, 4, 5, 0, 0),
-        event(1, 11, 2, 0, 0),
-        event(1, 12, 3, 0, 0),
-        event(0, 3, 0, 0, 0),
-        event(0, 4, 4, 0, 0),
-        event(0, 4, 5, 0, 0),
-        event(0, 5, 1, 0, 0),
-        event(0, 6, 0, 0, 0),
+        [0, 1, 6, 1, 0],
+        [0, 1, 7, 1, 0],
+        [0, 2, 0, 1, 0],
+        [2, 3, 0, 0, 0],
+        [4, 3, 0, 0, 0],
+        [2, 7, 0, 0, 1],
+        [4, 7, 0, 0, 0],
+        [4, 7, 0, 0, 0],
+        [2, 8, 7, 0, 1],
+        [3, 4, 7, 0, 0],
+        [4, 8, 6, 0, 0],
+        [1, 9, 3, 1, 0],
+        [1, 10, 2, 1, 0],
+        [1, 4, 6, 0, 0],
+        [1, 4, 7, 0, 0],
+        [1, 11, 2, 0, 0],
+        [3, 4, 6, 0, 0],
+        [0, 3, 0, 0, 0],
+        [0, 4, 6, 0, 0],
+        [0, 4, 7, 0, 0],
+        [0, 6, 0, 0, 0],
+        // The second round.
+        [0, 1, 4, 2, 0],
+        [0, 1, 5, 2, 0],
+        [0, 2, 0, 2, 0],
+        [2, 3, 0, 0, 0],
+        [2, 7, 0, 0, 0],
+        [2, 8, 4, 0, 0],
+        [2, 7, 0, 0, 1],
+        [2, 8, 5, 0, 1],
+        [1, 12, 3, 0, 0],
+        [1, 13, 1, 1, 0],
+        [1, 9, 3, 2, 0],
+        [1, 10, 2, 2, 0],
+        [1, 4, 4, 0, 0],
+        [1, 4, 5, 0, 0],
+        [1, 11, 2, 0, 0],
+        [1, 12, 3, 0, 0],
+        [0, 3, 0, 0, 0],
+        [0, 4, 4, 0, 0],
+        [0, 4, 5, 0, 0],
+        [0, 5, 1, 0, 0],
+        [0, 6, 0, 0, 0],
     ]
 }
 
 /// Both rounds.
 pub(crate) fn both_rounds<R: Abort + AllocGlobal>(rt: &R) -> Vec<Event> {
-    let mut events = Vec::from_array(rt.alloc(), first_round()).expect(rt, "enough memory");
-    events
-        .extend_from_slice(&second_round())
-        .expect(rt, "enough memory");
+    let mut events = Vec::new(rt.alloc());
+    for n in both_numbers() {
+        events.push(event(n)).expect(rt, "enough memory");
+    }
     events
 }
 
@@ -145,7 +141,7 @@ fn each_step_tells_what_went_out_or_was_taken(rt: HostRuntime) {
         assert_eq!(rt; got, wanted, "event {at}");
     }
     for kind in [0, 14] {
-        let got = state.apply(rt.alloc(), &event(0, kind, 0, 0, 0));
+        let got = state.apply(rt.alloc(), &event([0, kind, 0, 0, 0]));
         assert_eq!(rt; got.expect(&rt, "enough memory"), Applied::NotAllowed);
     }
 }
@@ -179,12 +175,9 @@ fn a_step_leaves_the_state_that_it_starts_from(rt: HostRuntime) {
 #[test]
 fn a_pair_of_33_and_2_partitions_has_two_claim_words(rt: HostRuntime) {
     let geometry = Geometry::new(33, 2, 2, 33, 1, 1).expect(&rt, "within the limits");
-    let cases = [
-        (event(0, 1, 5, 1, 0), Some(1)),
-        (event(0, 1, 4, 1, 0), Some(0)),
-    ];
-    let bad = event(0, 0, 0, 0, 0);
+    let cases = [([0, 1, 5, 1, 0], Some(1)), ([0, 1, 4, 1, 0], Some(0))];
+    let bad = event([0, 0, 0, 0, 0]);
     for (first, at) in cases {
-        assert_eq!(rt; stop(&rt, geometry, &[first, bad]), at);
+        assert_eq!(rt; stop(&rt, geometry, &[event(first), bad]), at);
     }
 }

@@ -29,9 +29,12 @@ fn pairs_stand_in_the_order_of_their_later_calls(rt: HostRuntime) {
     }
     let partners = [Some(1), Some(0), None, Some(4), Some(3), None];
     for (slot, partner) in partners.iter().enumerate() {
-        assert_eq!(rt; world.partner(slot as u32), *partner, "slot {slot}");
+        assert_eq!(rt;
+            (world.partner(slot as u32), world.pair_count()),
+            (*partner, 2),
+            "slot {slot}"
+        );
     }
-    assert_eq!(rt; world.pair_count(), 2);
 }
 
 #[test]

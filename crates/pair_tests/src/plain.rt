@@ -2,7 +2,8 @@
 
 use part_geometry::{Geometry, Marked, Marks, RecvTest, StartFault};
 use plain_pair::{
-    PlainLook, PlainPair, PlainRefusal, PlainSendTest, PlainStop, PlainTake, marks_laws, take_laws,
+    PlainArrival, PlainLook, PlainPair, PlainRefusal, PlainSendTest, PlainStop, PlainTake,
+    marks_laws, take_laws,
 };
 use std::process::Abort;
 
@@ -46,19 +47,37 @@ fn pieces_go_out_with_their_last_mark(rt: HostRuntime) {
 #[test]
 fn a_refused_mark_changes_nothing(rt: HostRuntime) {
     let mut pair = started(&rt, 1, 1);
-    assert_eq!(rt; pair.pready(1, 2, part(2)).is_ok(), true);
-    let refused = [
-        (1, 3, part(0), PlainRefusal::BadPartition),
-        (1, 2, b"abc".as_slice(), PlainRefusal::BadLength),
-        (2, 2, part(0), PlainRefusal::NotActive),
-        (1, 2, part(0), PlainRefusal::AlreadyMarked),
+    let marks = [
+        (1, 2, part(2), None),
+        (1, 3, part(0), Some(PlainRefusal::BadPartition)),
+        (1, 2, b"abc".as_slice(), Some(PlainRefusal::BadLength)),
+        (2, 2, part(0), Some(PlainRefusal::NotActive)),
+        (1, 2, part(0), Some(PlainRefusal::AlreadyMarked)),
+        (1, 1, part(1), None),
     ];
-    for (round, p, bytes, cause) in refused {
-        assert_eq!(rt; pair.pready(round, p, bytes), Err(cause));
+    for (round, p, bytes, refused) in marks {
+        assert_eq!(rt; pair.pready(round, p, bytes).err(), refused);
     }
-    assert_eq!(rt; pair.pready(1, 1, part(1)).is_ok(), true);
     let taken = pair.take(1).expect(&rt, "arrived");
     assert_eq!(rt; taken.as_slice(), b"ghijkl".as_slice());
+}
+
+/// What an arrival shows: its round, its partition, whether it has these bytes, and if it has six, the last of them and
+/// a copy of all.
+fn shown(taken: &PlainArrival) -> (u32, u32, bool, Option<(u8, [u8; 6])>) {
+    let is_whole = taken.as_slice() == b"ghijkl".as_slice();
+    let mut out = *b"......";
+    if taken.len() != 6 {
+        return (taken.round(), taken.partition(), is_whole, None);
+    }
+    taken.copy_into(&mut out);
+    let last = taken.byte(5);
+    (
+        taken.round(),
+        taken.partition(),
+        is_whole,
+        Some((last, out)),
+    )
 }
 
 #[test]
@@ -93,38 +112,32 @@ fn a_look_and_a_take_wait_for_the_pieces_over_a_partition(rt: HostRuntime) {
     let wanted = (PlainLook::BadPartition, Some(PlainTake::BadPartition));
     assert_eq!(rt; (pair.parrived(2), pair.take(2).err()), wanted);
     let taken = pair.take(1).expect(&rt, "arrived");
-    assert_eq!(rt; (taken.round(), taken.partition(), taken.len()), (1, 1, 6));
-    assert_eq!(rt; taken.as_slice(), b"ghijkl".as_slice());
-    let mut out = *b"......";
-    if taken.len() == 6 {
-        taken.copy_into(&mut out);
-        assert_eq!(rt; (taken.byte(5), out), (b'l', *b"ghijkl"));
-    }
+    let copy = Some((b'l', *b"ghijkl"));
+    assert_eq!(rt; shown(&taken), (1, 1, true, copy));
 }
 
 #[test]
 fn a_receiver_ahead_of_the_sender_waits(rt: HostRuntime) {
     let geometry = Geometry::new(3, 4, 2, 6, 1, 1).expect(&rt, "within the limits");
     let mut pair = PlainPair::create(rt.alloc(), geometry).expect(&rt, "enough memory");
-    assert_eq!(rt;
-        (pair.parrived(1), pair.take(1).err()),
-        (PlainLook::Idle, Some(PlainTake::Idle))
-    );
-    assert_eq!(rt; pair.start_recv(), Ok(1));
-    assert_eq!(rt; pair.parrived(1), PlainLook::NotYet { piece: 2 });
+    let idle = (pair.parrived(1), pair.take(1).err());
+    let early = (pair.start_recv(), pair.parrived(1));
+    let starts = (pair.start_send(), pair.start_recv(), pair.start_send());
+    let closed = pair.close();
+    let rounds = (closed.send_round, closed.recv_round);
     let active = StartFault::AlreadyActive { round: 1 };
     assert_eq!(rt;
-        (pair.start_send(), pair.start_recv(), pair.start_send()),
-        (Ok(1), Err(active), Err(active))
+        (idle, early, starts),
+        (
+            (PlainLook::Idle, Some(PlainTake::Idle)),
+            (Ok(1), PlainLook::NotYet { piece: 2 }),
+            (Ok(1), Err(active), Err(active))
+        )
     );
-    let closed = pair.close();
-    let got = (
-        closed.send_round,
-        closed.recv_round,
-        closed.released,
-        closed.pieces_out,
+    assert_eq!(rt;
+        (rounds, closed.released, closed.pieces_out),
+        ((1, 1), 0, 0)
     );
-    assert_eq!(rt; got, (1, 1, 0, 0));
 }
 
 #[test]
@@ -170,20 +183,26 @@ fn four<R: Abort + AllocGlobal>(rt: &R) -> PlainPair {
 #[test]
 fn ranges_and_lists_mark_in_order(rt: HostRuntime) {
     let mut pair = four(&rt);
-    let marks = |count, sent| {
-        Ok(Marks {
-            round: 1,
-            count,
-            sent,
-        })
+    let told = (
+        pair.pready_range(1, 1, 2, b"ab"),
+        pair.pready_list(1, &[0, 1], b"cd"),
+        pair.pready_list(1, &[3], b"e"),
+    );
+    let two = Marks {
+        round: 1,
+        count: 2,
+        sent: 2,
     };
-    assert_eq!(rt; pair.pready_range(1, 1, 2, b"ab"), marks(2, 2));
     let stopped = PlainStop {
         at: 1,
         cause: PlainRefusal::AlreadyMarked,
     };
-    assert_eq!(rt; pair.pready_list(1, &[0, 1], b"cd"), Err(stopped));
-    assert_eq!(rt; pair.pready_list(1, &[3], b"e"), marks(1, 1));
+    let one = Marks {
+        round: 1,
+        count: 1,
+        sent: 1,
+    };
+    assert_eq!(rt; told, (Ok(two), Err(stopped), Ok(one)));
     for (q, byte) in b"cabe".iter().enumerate() {
         let taken = pair.take(q as u32).expect(&rt, "arrived");
         assert_eq!(rt; taken.as_slice(), [*byte].as_slice());
@@ -219,6 +238,8 @@ fn a_bad_range_or_list_marks_nothing(rt: HostRuntime) {
         count: 0,
         sent: 0,
     };
-    assert_eq!(rt; pair.pready_list(7, &[], b""), Ok(none));
-    assert_eq!(rt; pair.test_send(), PlainSendTest::Unmarked { partition: 0 });
+    assert_eq!(rt;
+        (pair.pready_list(7, &[], b""), pair.test_send()),
+        (Ok(none), PlainSendTest::Unmarked { partition: 0 })
+    );
 }

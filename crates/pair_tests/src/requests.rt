@@ -19,15 +19,6 @@ fn requests_go_through_their_states(rt: HostRuntime) {
         recv.free(),
         recv.side(),
     );
-    assert_eq!(rt;
-        unmatched,
-        (
-            Err(ReqFault::Unmatched),
-            Ok(PlainSendTest::Idle),
-            Err(FreeFault::Unmatched),
-            Side::RecvSide
-        )
-    );
     send.matched();
     recv.matched();
     let started = (
@@ -36,20 +27,27 @@ fn requests_go_through_their_states(rt: HostRuntime) {
         start_send_plain(&mut send, &mut pair),
         test_recv_plain(&mut recv, &mut pair),
     );
-    assert_eq!(rt;
-        started,
-        (
-            Ok(1),
-            Ok(1),
-            Err(ReqFault::AlreadyActive { round: 1 }),
-            Ok(RecvTest::Untaken { q: 0 })
-        )
+    let ended = (send.state(), send.free());
+    let active = (
+        ReqState::Started { round: 1 },
+        Err(FreeFault::Active { round: 1 }),
     );
     assert_eq!(rt;
-        (send.state(), send.free()),
+        (unmatched, started, ended),
         (
-            ReqState::Started { round: 1 },
-            Err(FreeFault::Active { round: 1 })
+            (
+                Err(ReqFault::Unmatched),
+                Ok(PlainSendTest::Idle),
+                Err(FreeFault::Unmatched),
+                Side::RecvSide
+            ),
+            (
+                Ok(1),
+                Ok(1),
+                Err(ReqFault::AlreadyActive { round: 1 }),
+                Ok(RecvTest::Untaken { q: 0 })
+            ),
+            active
         )
     );
 }
@@ -68,8 +66,6 @@ fn a_round_completes_both_requests(rt: HostRuntime) {
         pair.pready(1, 0, b"a").is_ok(),
         test_send_plain(&mut send, &mut pair),
     );
-    let unreleased = PlainSendTest::Unreleased { released: 0 };
-    assert_eq!(rt; started, (Ok(1), Ok(1), true, Ok(unreleased)));
     let taken = pair.take(0).expect(&rt, "arrived");
     pair.give_back(taken);
     let tested = (
@@ -78,24 +74,25 @@ fn a_round_completes_both_requests(rt: HostRuntime) {
         test_send_plain(&mut send, &mut pair),
         start_send_plain(&mut send, &mut pair),
     );
-    let complete = ReqState::Complete { round: 1 };
-    assert_eq!(rt;
-        tested,
-        (Ok(RecvTest::Done), complete, Ok(PlainSendTest::Done), Ok(2))
-    );
     let freed = (
         recv.free(),
         test_recv_plain(&mut recv, &mut pair),
         start_recv_plain(&mut recv, &mut pair),
         recv.free(),
     );
+    let unreleased = PlainSendTest::Unreleased { released: 0 };
+    let complete = ReqState::Complete { round: 1 };
     assert_eq!(rt;
-        freed,
+        (started, tested, freed),
         (
-            Ok(()),
-            Err(Freed),
-            Err(ReqFault::Freed),
-            Err(FreeFault::Freed)
+            (Ok(1), Ok(1), true, Ok(unreleased)),
+            (Ok(RecvTest::Done), complete, Ok(PlainSendTest::Done), Ok(2)),
+            (
+                Ok(()),
+                Err(Freed),
+                Err(ReqFault::Freed),
+                Err(FreeFault::Freed)
+            )
         )
     );
 }

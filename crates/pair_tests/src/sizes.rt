@@ -1,6 +1,6 @@
 //! Pairs of the greatest sizes, by checksums of their bytes: that calls with ample memory succeed is said by no clause.
 
-use part_geometry::{Geometry, MAX_GRAIN, MAX_PART_BYTES, MAX_TOTAL, RecvTest};
+use part_geometry::{Geometry, MAX_GRAIN, MAX_PART_BYTES, MAX_TOTAL, Marks, RecvTest};
 use plain_pair::{PlainPair, PlainSendTest};
 use std::alloc::{AllocError, Global};
 use std::process::Abort;
@@ -66,14 +66,17 @@ fn two_rounds_of_1024_by_1023_partitions(rt: HostRuntime) {
     let mut pair = pair_of(&rt, [1024, 1023, 1023, 1024, 1, 4]);
     for round in [1, 2] {
         let bytes = message(rt.alloc(), 1_047_552, round).expect(&rt, "enough memory");
-        assert_eq!(rt;
-            (pair.start_send(), pair.start_recv()),
-            (Ok(round), Ok(round))
-        );
+        let starts = (pair.start_send(), pair.start_recv());
         let sent = mark_all(&mut pair, round, 1024, 1023, &bytes);
         let sum = take_all(&mut pair, 1023);
-        assert_eq!(rt; (sent, sum), (Some(2046), Some(checksum(0, &bytes))));
-        assert_eq!(rt; ends(&mut pair), (RecvTest::Done, PlainSendTest::Done));
+        assert_eq!(rt;
+            (starts, (sent, sum), ends(&mut pair)),
+            (
+                (Ok(round), Ok(round)),
+                (Some(2046), Some(checksum(0, &bytes))),
+                (RecvTest::Done, PlainSendTest::Done)
+            )
+        );
     }
     let closed = pair.close();
     assert_eq!(rt; (closed.released, closed.pieces_out), (2, 4092));
@@ -83,9 +86,20 @@ fn two_rounds_of_1024_by_1023_partitions(rt: HostRuntime) {
 fn the_greatest_message(rt: HostRuntime) {
     let mut pair = pair_of(&rt, [16, MAX_PART_BYTES, 16, MAX_PART_BYTES, MAX_GRAIN, 4]);
     let bytes = message(rt.alloc(), MAX_TOTAL, 1).expect(&rt, "enough memory");
-    assert_eq!(rt; (pair.start_send(), pair.start_recv()), (Ok(1), Ok(1)));
-    let marks = pair.pready_range(1, 0, 15, &bytes).expect(&rt, "unmarked");
-    assert_eq!(rt; (marks.count, marks.sent), (16, 1));
-    assert_eq!(rt; take_all(&mut pair, 16), Some(checksum(0, &bytes)));
-    assert_eq!(rt; ends(&mut pair), (RecvTest::Done, PlainSendTest::Done));
+    let starts = (pair.start_send(), pair.start_recv());
+    let marked = pair.pready_range(1, 0, 15, &bytes);
+    let sum = take_all(&mut pair, 16);
+    let all = Marks {
+        round: 1,
+        count: 16,
+        sent: 1,
+    };
+    assert_eq!(rt;
+        (starts, (marked, sum), ends(&mut pair)),
+        (
+            (Ok(1), Ok(1)),
+            (Ok(all), Some(checksum(0, &bytes))),
+            (RecvTest::Done, PlainSendTest::Done)
+        )
+    );
 }
