@@ -10,8 +10,9 @@ ghost use Rattle.pair_core.specs.Moves.{TryClaim};
 ghost use Rattle.pair_core.specs.declared.view.Pending.{Pending};
 ghost use Rattle.slot_rows.specs.Lists.{row};
 ghost use Rattle.atomic_table.specs.Table.{step};
-ghost use mathlib.Core.Option.{none};
-ghost use Rattle.pair_rule.specs.Buf.{Buf};
+ghost use mathlib.Core.Option.{some, none};
+ghost use lib.ListN.{get_elem?};
+ghost use Rattle.pair_rule.specs.Buf.{Buf, buf};
 ghost use Rattle.pair_rule.specs.Rule.{cell_length, MayMark};
 ghost use Rattle.pair_rule.specs.Views.{seen, saw};
 ghost use Rattle.pair_rule.specs.Seats.{IsOf, values};
@@ -27,8 +28,17 @@ use crate::rule::Place;
 use crate::seats::MarkSeat;
 use crate::words::{claim_word, one_bit, piece_word, slot_of};
 use gate_word::round_of;
-use slot_rows::swap_at;
+use slot_rows::{swap_at, turn_times};
 use std::marker::Brand;
+
+/// Fills the buffer that a slot has.
+fn fill_held(held: &mut Option<CellBuf>, round: u32, bytes: &[u8])
+    requires { (y : Buf) × (held.old ≡ Some y) × (length y.bytes ≡ length bytes.now) }
+    ensures { held.new ≡ Some (buf round bytes.now) }
+{
+    let Some(own) = held else { unreachable!() };
+    own.fill(round, bytes);
+}
 
 impl<C: Content> Pair<C> {
     fn try_claim_as<X: Claimed>(
@@ -146,6 +156,50 @@ impl<C: Content> Pair<C> {
             slot,
             new,
         )
+    }
+
+    /// Fills the buffer in the slot at the place `at` of the seat's list, which has `count` slots and keeps its order.
+    fn fill_slot(
+        &self,
+        seat: &mut Place,
+        at: usize,
+        count: usize,
+        slot: usize,
+        round: u32,
+        bytes: &[u8],
+    )
+        requires table { seat.old.table_id ≡ self.now.table }
+        requires count { count ≡ length seat.old.me.1 }
+        requires held { (y : Buf) × (get_elem? seat.old.me.1 at ≡ some (slot, Some y))
+            × (length y.bytes ≡ length bytes.now) }
+        ensures seat { (seat.new.table_id ≡ seat.old.table_id) × (seat.new.id ≡ seat.old.id) }
+        ensures slots { seat.new.me ≡ (seat.old.me.0, slice_set seat.old.me.1 at (slot, Some (buf round bytes.now))) }
+    {
+        turn_times(seat, at);
+        fill_held(seat.slot_mut(&self.table.shared, slot), round, bytes);
+        turn_times(seat, count - at);
+    }
+
+    /// A marker fills the buffer of a cell at a place for a round, where it stands: its slot is out with the seat.
+    pub fn fill_marked(
+        &self,
+        seat: &mut MarkSeat<C>,
+        place: u32,
+        cell: u32,
+        round: u32,
+        bytes: &[u8],
+    )
+        requires pair { IsOf seat.old.table seat.old.view self.now }
+        requires place { place < seat.old.view.geometry.depth }
+        requires cell { cell < cells seat.old.view.geometry }
+        requires held { (y : Buf) × HasOut seat.old place cell (Some y) × (length y.bytes ≡ length bytes.now) }
+        ensures step { seat.new ≡ record seat.old {
+          out = slice_set seat.old.out (spot seat.old place cell) (Some (buf round bytes.now));
+        } }
+    {
+        let slot = slot_of(&self.tables, place as usize, cell as usize);
+        let at = slot - seat.first;
+        self.fill_slot(&mut seat.seat, at, seat.count, slot, round, bytes);
     }
 
     /// A marker takes the buffer of a cell at a place out of its slot, which is out with the seat and has one.

@@ -25,7 +25,7 @@ fn cell_part<'a>(tables: &Tables, cell: usize, bytes: &'a [u8]) -> &'a [u8]
     &bytes[(here.start - start) as usize..(here.end - start) as usize]
 }
 
-/// Lends the buffer of a cell, fills it for a round with its part of the partition's bytes, and puts it back.
+/// Fills the buffer of a cell for a round with its part of the partition's bytes.
 fn fill_cell<C: Content>(
     seat: &mut MarkSeat<C>,
     pair: &Pair<C>,
@@ -48,9 +48,7 @@ fn fill_cell<C: Content>(
     // What the seat or the tables say of themselves, for the proof.
     let _cells = tables.cells();
     let part = cell_part(tables, cell, bytes);
-    let mut lent = pair.lend_marked(seat, place, cell as u32);
-    lent.fill(round, part);
-    pair.put_marked(seat, place, cell as u32, lent);
+    pair.fill_marked(seat, place, cell as u32, round, part);
 }
 
 /// Fills the buffers of a partition's cells, which are out, for a round with the partition's bytes.
