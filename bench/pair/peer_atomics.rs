@@ -1,6 +1,6 @@
 // Partitioned communication between threads of one process by bare atomics: nothing is checked of how it is called.
 //
-//   peer_atomics flags|steps|packed --send-parts P --recv-parts Q --bytes B --grain G --depth D --rounds N
+//   peer_atomics flags|ahead|steps|packed --send-parts P --recv-parts Q --bytes B --grain G --depth D --rounds N
 //     --markers M --watchers W [--pause U]
 //
 // A send partition has B bytes. Each of the M marking threads, the sending one among them, fills and marks a run of
@@ -11,9 +11,11 @@
 // words are.
 //
 // `flags` is the least that works: a mark stores the round in the partition's flag, and the release is one word. The
-// grain is not used. `steps` makes the atomic steps that calls with refusals need, each sequentially consistent: words
-// of a round and bits for claims, pieces, takes and returns. Each kind of word has cache lines of its own. `packed` is
-// `steps` with all words side by side.
+// grain is not used. A round is started by one thread, once all marks of the round before are made. `ahead` is `flags`
+// without that: a marking thread goes on to later rounds, as many as may be in flight, while others are still behind,
+// so there is no request that is started and completed. `steps` makes the atomic steps that calls with refusals need,
+// each sequentially consistent: words of a round and bits for claims, pieces, takes and returns. Each kind of word has
+// cache lines of its own. `packed` is `steps` with all words side by side.
 use std::ops::Range;
 use std::sync::atomic::{AtomicU64, Ordering::*};
 use std::sync::Barrier;
@@ -226,7 +228,7 @@ trait Pair: Sync {
     fn release(&self, round: u64);
 }
 
-struct Flags<'a> {
+struct Flags<'a, const MEETS: bool> {
     plan: &'a Plan,
     shared: Shared,
     table: Table,
@@ -235,8 +237,8 @@ struct Flags<'a> {
     parts_over: Vec<Range<usize>>,
 }
 
-impl Flags<'_> {
-    fn new(plan: &Plan) -> Flags<'_> {
+impl<const MEETS: bool> Flags<'_, MEETS> {
+    fn new(plan: &Plan) -> Flags<'_, MEETS> {
         let mut table = Table::new(false);
         let release = table.group(1);
         let flags = (0..plan.places()).map(|_| table.group(plan.send_parts)).collect();
@@ -253,8 +255,8 @@ impl Flags<'_> {
     }
 }
 
-impl Pair for Flags<'_> {
-    const MEETS: bool = false;
+impl<const MEETS: bool> Pair for Flags<'_, MEETS> {
+    const MEETS: bool = MEETS;
 
     fn pieces(&self) -> usize {
         self.plan.send_parts
@@ -608,7 +610,8 @@ fn run<P: Pair>(pair: &P, plan: &Plan) {
 fn main() {
     let words: Vec<String> = env::args().skip(1).collect();
     match (words.first().map(String::as_str), words.get(1..).and_then(Plan::read)) {
-        (Some("flags"), Some(plan)) => run(&Flags::new(&plan), &plan),
+        (Some("flags"), Some(plan)) => run(&Flags::<true>::new(&plan), &plan),
+        (Some("ahead"), Some(plan)) => run(&Flags::<false>::new(&plan), &plan),
         (Some("steps"), Some(plan)) => run(&Steps::new(&plan, false), &plan),
         (Some("packed"), Some(plan)) => run(&Steps::new(&plan, true), &plan),
         _ => process::exit(2),
