@@ -5,7 +5,7 @@ ghost use Rattle.pair_rule.specs.Buf.{buf};
 ghost use Rattle.pair_rule.specs.Kept.{kept};
 ghost use Rattle.pair_rule.specs.declared.TheConstants.{FREE_BYTES};
 
-use crate::few::Few;
+use crate::few::{Few, copy_bytes};
 use crate::{FREE_BYTES, SHORT};
 use std::alloc::{AllocError, Global};
 use std::marker::Model;
@@ -129,6 +129,6 @@ impl CellBuf {
         requires { length out.old ≡ length self.now.bytes }
         ensures { out.new ≡ self.now.bytes }
     {
-        out.copy_from_slice(self.bytes.as_slice());
+        copy_bytes(out, self.bytes.as_slice());
     }
 }

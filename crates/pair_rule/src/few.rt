@@ -6,6 +6,19 @@ ghost use Rattle.pair_rule.specs.declared.TheConstants.{SHORT};
 use crate::SHORT;
 use std::marker::Model;
 
+/// Copies all bytes of a slice to one of the same length. Eight bytes, a number's, are copied without a call.
+#[inline]
+pub(crate) fn copy_bytes(to: &mut [u8], from: &[u8])
+    requires { length from.now ≡ length to.old }
+    ensures { to.new ≡ from.now }
+{
+    if to.len() == 8 {
+        to[..8].copy_from_slice(&from[..8]);
+    } else {
+        to.copy_from_slice(from);
+    }
+}
+
 /// At most `SHORT` bytes, in the value itself, which is as long as a vector. Contracts see the bytes.
 #[derive(Drop)]
 pub(crate) struct Few {
@@ -50,6 +63,6 @@ impl Few {
         requires { length bytes.now ≡ length self.old }
         ensures { self.new ≡ bytes.now }
     {
-        self.bytes[..self.len as usize].copy_from_slice(bytes);
+        copy_bytes(&mut self.bytes[..self.len as usize], bytes);
     }
 }
