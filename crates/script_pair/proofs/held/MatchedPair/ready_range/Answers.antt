@@ -10,3 +10,8 @@ invariant_of-self c =
     let listed = range_parts c.args.low c.args.high in
     held_marked _ c.pready_range.new.self _ i (c.pready_range.ensures.answer i.here i.known).1 c.pready_range.ensures.shape c.pready_range.ensures.sides
     (progress_same (whole_range g c.args.low c.args.high listed c.args.bytes.now) g i.here c.args.round (entries g listed c.args.bytes.now))
+
+pub returns-clause-answer : goal.returns-clause-answer
+returns-clause-answer c =
+    rw (← c.self.view_is)
+    (λ d st. let a = c.pready_range.ensures.answer d.record_ st.record_ in (a.0, record { record_ = a.1; send = st.send; recv = st.recv }))
