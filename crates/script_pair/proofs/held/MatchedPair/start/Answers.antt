@@ -39,8 +39,8 @@ returns-in-SendSide-clause-answer c =
     let in_use : is_in_use c.self.inside.send.state ≡ true = rw (← c.self.view_is, c.in-SendSide.is) at c.requires in
     rw (← c.self.view_is, c.in-SendSide.is)
     (λ d st.
-        let a = e.call in_use d.record_ st.record_ in
-        (a.0, record { record_ = a.1; send = ap (λ (r : Req). r.state) e.state ∙ ap₂ state_started a.0 st.send; recv = st.recv }))
+    let a = e.call in_use d.record_ st.record_ in
+    (a.0, record { record_ = a.1; send = ap (λ (r : Req). r.state) e.state ∙ ap₂ state_started a.0 st.send; recv = st.recv }))
 
 pub returns-in-RecvSide-clause-answer : goal.returns-in-RecvSide-clause-answer
 returns-in-RecvSide-clause-answer c =
@@ -48,5 +48,5 @@ returns-in-RecvSide-clause-answer c =
     let in_use : is_in_use c.self.inside.recv.state ≡ true = rw (← c.self.view_is, c.in-RecvSide.is) at c.requires in
     rw (← c.self.view_is, c.in-RecvSide.is)
     (λ d st.
-        let a = e.call in_use d.record_ st.record_ in
-        (a.0, record { record_ = a.1; send = st.send; recv = ap (λ (r : Req). r.state) e.state ∙ ap₂ state_started a.0 st.recv }))
+    let a = e.call in_use d.record_ st.record_ in
+    (a.0, record { record_ = a.1; send = st.send; recv = ap (λ (r : Req). r.state) e.state ∙ ap₂ state_started a.0 st.recv }))

@@ -20,15 +20,15 @@ returns-in-Ok-clause-answer c =
     let g = c.self.inside.pair.shape in
     rw (← c.self.view_is)
     (λ d st.
-        let a = c.take.ensures.answer d.record_ st.record_ in
-        let is : Ok c.in-Ok.arrival ≡ take_answer g d.record_ c.args.q = sym c.in-Ok.is ∙ a.0 in
-        (rw (← is) (rw c.as_slice.ensures.value at c.bytes-text.ensures), record { record_ = a.1; send = st.send; recv = st.recv }))
+    let a = c.take.ensures.answer d.record_ st.record_ in
+    let is : Ok c.in-Ok.arrival ≡ take_answer g d.record_ c.args.q = sym c.in-Ok.is ∙ a.0 in
+    (rw (← is) (rw c.as_slice.ensures.value at c.bytes-text.ensures), record { record_ = a.1; send = st.send; recv = st.recv }))
 
 pub returns-in-Err-clause-answer : goal.returns-in-Err-clause-answer
 returns-in-Err-clause-answer c =
     let g = c.self.inside.pair.shape in
     rw (← c.self.view_is)
     (λ d st.
-        let a = c.take.ensures.answer d.record_ st.record_ in
-        let is : Err c.in-Err.cause ≡ take_answer g d.record_ c.args.q = sym c.in-Err.is ∙ a.0 in
-        (rw (← is) c.untaken.ensures, record { record_ = a.1; send = st.send; recv = st.recv }))
+    let a = c.take.ensures.answer d.record_ st.record_ in
+    let is : Err c.in-Err.cause ≡ take_answer g d.record_ c.args.q = sym c.in-Err.is ∙ a.0 in
+    (rw (← is) c.untaken.ensures, record { record_ = a.1; send = st.send; recv = st.recv }))

@@ -26,6 +26,6 @@ returns-clause-answer c =
     let used : is_in_use c.self.inside.send.state ≡ true = rw (← c.self.view_is) at c.requires in
     rw (← c.self.view_is)
     (λ d st.
-        let a = e.call used d.record_ st.record_ in
-        let is : Ok c.in-Ok.answer ≡ Ok (test_send_answer c.self.inside.pair.shape d.record_) = sym c.in-Ok.is ∙ a.0 in
-        (cc, record { record_ = a.1; send = ap (λ (r : Req). r.state) e.state ∙ ap₂ state_sent a.0 st.send; recv = st.recv }))
+    let a = e.call used d.record_ st.record_ in
+    let is : Ok c.in-Ok.answer ≡ Ok (test_send_answer c.self.inside.pair.shape d.record_) = sym c.in-Ok.is ∙ a.0 in
+    (cc, record { record_ = a.1; send = ap (λ (r : Req). r.state) e.state ∙ ap₂ state_sent a.0 st.send; recv = st.recv }))
