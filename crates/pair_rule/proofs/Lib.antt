@@ -18,6 +18,7 @@ pub mod Closing
 pub mod LanesKept
 pub mod RecvCalls
 pub mod TakeCalls
+pub mod Leaving
 pub mod Calls
 pub mod Marking
 pub mod Rows

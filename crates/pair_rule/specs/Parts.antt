@@ -1,7 +1,7 @@
 -- What the steps on receive partitions find, and do to the lanes and slots of the seat that makes them.
 use Rattle.std.specs.Prelude.{ℕ, zero, suc, ◌+◌, ◌-◌, ◌*◌, ◌/◌, ◌%◌, ◌^◌, ◌<◌, true, false, bit_or}
-use Rattle.std.specs.Prelude.{◌≡◌, slice_index, slice_set, List, [], ◌∷◌, ◌++◌, map, take, drop, length, replicate}
-use Rattle.std.specs.Prelude.{Option, Some, None}
+use Rattle.std.specs.Prelude.{◌≡◌, slice_index, slice_set, List, [], ◌∷◌, ◌++◌, map, take, drop, length}
+use Rattle.std.specs.Prelude.{Option, Some, None, IfSome}
 use Rattle.std.specs.List.{range_with_len, flat_map}
 use mathlib.Core.Option.{some}
 use lib.ListN.{get_elem?}
@@ -10,10 +10,10 @@ use Rattle.part_geometry.specs.Shape.{Shape}
 use Rattle.part_geometry.specs.Cells.{recv_of}
 use Rattle.part_tables.specs.Parts.{first_received}
 use Rattle.slot_rows.specs.declared.lane.Lane.{Lane}
-use Rattle.slot_rows.specs.Lists.{row, spliced, overlaid}
+use Rattle.slot_rows.specs.Lists.{row, spliced, overlaid, Every}
 use Rattle.slot_rows.specs.Lanes.{place, flagged}
 use Rattle.pair_rule.specs.Buf.{Buf}
-use Rattle.pair_rule.specs.Rule.{slot_number}
+use Rattle.pair_rule.specs.Rule.{slot_number, cell_length}
 use Rattle.pair_core.specs.Names.{Take, Return}
 use Rattle.pair_rule.specs.Views.{seen, taken, given_back, stored_take}
 use Rattle.pair_rule.specs.Steps.{Seat, AreOf}
@@ -129,6 +129,31 @@ pub record HasFilled (q : ℕ) (held : RecvHeld) : Type 0 where
   pub out : HasOut (place_of held.view) q (map Some bufs) held
   pub of : AreOf held.view.geometry held.view.recv.round (first_received held.view.geometry q) bufs
 
+-- What a slot has after its buffer was lent: it is empty, or has that buffer still. And the slots of these buffers.
+abbrev pub IsLeft : Buf → Option Buf → Type 0
+IsLeft b value = IfSome value (λ y. y ≡ b)
+
+abbrev pub AreLeft : List Buf → List (Option Buf) → Type 0
+AreLeft [] [] = Unit {0}
+AreLeft (b ∷ bs) (v ∷ vs) = IsLeft b v × AreLeft bs vs
+AreLeft bs vs = ⊥
+
+-- the buffer that a slot has after b was put into it: its own, if it has one
+abbrev pub or_own : Buf → Option Buf → Buf
+or_own b None = b
+or_own b (Some y) = y
+
+-- of a row of cells from c on, each slot is empty, or has a buffer of round k and its cell's length
+abbrev pub MayBeOf : Shape → ℕ → ℕ → List (Option Buf) → Type 0
+MayBeOf g k c values =
+    Every (λ i value. IfSome value (λ y. (y.round ≡ k) × (length y.bytes ≡ cell_length g i))) c values
+
+-- so it is with the slots of receive partition q at place e, in the side's round
+pub record HasLeft (e q : ℕ) (held : RecvHeld) : Type 0 where
+  pub values : List (Option Buf)
+  pub out : HasOut e q values held
+  pub of : MayBeOf held.view.geometry held.view.recv.round (first_received held.view.geometry q) values
+
 -- they have these values from now on
 abbrev pub with_values : ℕ → ℕ → List (Option Buf) → RecvHeld → RecvHeld
 with_values e q values held = record held {
@@ -159,7 +184,8 @@ WereTaken may lanes q found me me' =
 abbrev pub brought_home : List Lane → ℕ → ℕ → Seat → Seat
 brought_home lanes q found me = (returned_from q found me.0, without_part me.0.geometry lanes q me.1)
 
--- the slots of partition q have these values; each is a buffer; and each a buffer of the round and its cell's length
+-- the slots of partition q have these values; each is a buffer; each a buffer of the round and its cell's length; and
+-- each is empty or such a buffer
 abbrev pub IsRow : List Lane → ℕ → ℕ → List (Option Buf) → Seat → Type 0
 IsRow lanes e q values me = part_slots me.0.geometry lanes q me.1 ≡ row (first_slot me.0.geometry e q) values
 
@@ -172,11 +198,13 @@ AreFilled lanes q me =
     (bufs : List Buf) × (length bufs ≡ cells_of me.0.geometry q) × IsRow lanes (place_of me.0) q (map Some bufs) me
     × AreOf me.0.geometry me.0.recv.round (first_received me.0.geometry q) bufs
 
+abbrev pub AreLent : List Lane → ℕ → ℕ → Seat → Type 0
+AreLent lanes e q me =
+    (values : List (Option Buf)) × (length values ≡ cells_of me.0.geometry q) × IsRow lanes e q values me
+    × MayBeOf me.0.geometry me.0.recv.round (first_received me.0.geometry q) values
+
 abbrev pub with_part : List Lane → ℕ → ℕ → List (Option Buf) → Seat → Seat
 with_part lanes e q values me = (me.0, overlaid (spot lanes q) (first_slot me.0.geometry e q) values me.1)
-
-abbrev pub emptied : List Lane → ℕ → ℕ → Seat → Seat
-emptied lanes e q me = with_part lanes e q (replicate (cells_of me.0.geometry q) None) me
 
 -- the slot of its cell i, from 0, has this value
 abbrev pub IsPartOut : List Lane → ℕ → ℕ → ℕ → Option Buf → Seat → Type 0

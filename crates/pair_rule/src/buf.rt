@@ -1,8 +1,8 @@
 //! The buffer of a cell.
 
-ghost use Rattle.std.specs.Prelude.{◌≡◌, ◌+◌, ◌<◌, ◌^◌, length, replicate, slice_index, IfOk};
+ghost use Rattle.std.specs.Prelude.{◌≡◌, ◌+◌, ◌<◌, ◌^◌, length, replicate, slice_index, IfOk, IfSome};
 ghost use Rattle.pair_rule.specs.Buf.{buf};
-ghost use Rattle.pair_rule.specs.Kept.{kept};
+ghost use Rattle.pair_rule.specs.Kept.{copy_of, kept};
 ghost use Rattle.pair_rule.specs.declared.TheConstants.{FREE_BYTES};
 
 use crate::few::{Few, copy_bytes};
@@ -41,6 +41,17 @@ impl Kept {
         match self {
             Kept::Short(bytes) => bytes.as_slice(),
             Kept::Long(bytes) => bytes.as_slice(),
+        }
+    }
+
+    /// The same bytes once more, where they stand in the buffer itself.
+    #[inline]
+    fn copy(&self) -> Option<Kept>
+        ensures { result ≡ copy_of self.now }
+    {
+        match self {
+            Kept::Short(bytes) => Some(Kept::Short(bytes.copy())),
+            Kept::Long(_) => None,
         }
     }
 
@@ -113,6 +124,20 @@ impl CellBuf {
         ensures { result.now ≡ self.now.bytes }
     {
         self.bytes.as_slice()
+    }
+
+    /// A copy of it, where its bytes stand in it itself. It takes no memory.
+    #[inline]
+    pub fn copy(&self) -> Option<CellBuf>
+        ensures { IfSome result (λ b. b ≡ self.now) }
+    {
+        match self.bytes.copy() {
+            Some(bytes) => Some(CellBuf {
+                round: self.round,
+                bytes,
+            }),
+            None => None,
+        }
     }
 
     /// Puts as many bytes into it as it has, for a round. It takes no memory.

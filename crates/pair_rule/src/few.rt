@@ -57,6 +57,17 @@ impl Few {
         &self.bytes[..self.len as usize]
     }
 
+    /// The same bytes once more.
+    #[inline]
+    pub(crate) fn copy(&self) -> Few
+        ensures { result ≡ self.now }
+    {
+        Few {
+            len: self.len,
+            bytes: self.bytes,
+        }
+    }
+
     /// Puts as many bytes in as it has.
     #[inline]
     pub(crate) fn fill(&mut self, bytes: &[u8])

@@ -1,20 +1,23 @@
 //! The steps of the receive side on a partition, the buffers of its cells, and the shelves of the receive seat.
 
 ghost use Rattle.std.specs.Prelude.{◌≡◌, ◌+◌, ◌/◌, ◌%◌, ◌^◌, ◌<◌, ◌≤◌, ℕ, List, [], Option, Some, None};
-ghost use Rattle.std.specs.Prelude.{length, map, replicate, true, slice_set, IfOk};
+ghost use Rattle.std.specs.Prelude.{length, map, drop, true, slice_set, IfOk, IfSome};
 ghost use mathlib.Core.Option.{some};
 ghost use lib.ListN.{get_elem?};
 ghost use Rattle.part_geometry.specs.Cells.{cells, recv_of};
-ghost use Rattle.slot_rows.specs.Lanes.{HasFlags};
+ghost use Rattle.part_tables.specs.Parts.{first_received};
+ghost use Rattle.slot_rows.specs.Lists.{rotated};
+ghost use Rattle.slot_rows.specs.Lanes.{HasFlags, wide};
 ghost use Rattle.pair_core.specs.Moves.{TakePart, ReturnPart};
 ghost use Rattle.pair_core.specs.Names.{Take, Return};
 ghost use Rattle.pair_rule.specs.Buf.{Buf};
 ghost use Rattle.pair_rule.specs.Views.{seen};
 ghost use Rattle.pair_rule.specs.Seats.{IsOf, AreLanes, Room, cells_of};
-ghost use Rattle.pair_rule.specs.Steps.{MayMake};
+ghost use Rattle.pair_rule.specs.Steps.{AreOf, MayMake};
 ghost use Rattle.pair_rule.specs.Parts.{first_lanes, first_shelves, HasTaken, returned, HasOut, HasFilled, with_values};
-ghost use Rattle.pair_rule.specs.Parts.{IsOut, with_value, WereTaken, brought_home, AreFilled, AreFull, IsRow};
-ghost use Rattle.pair_rule.specs.Parts.{with_part, emptied, IsPartOut, with_part_value};
+ghost use Rattle.pair_rule.specs.Parts.{IsOut, with_value, WereTaken, brought_home, AreFilled, AreFull, IsRow, spot};
+ghost use Rattle.pair_rule.specs.Parts.{with_part, IsPartOut, with_part_value};
+ghost use Rattle.pair_rule.specs.Parts.{IsLeft, AreLeft, HasLeft, AreLent, or_own};
 ghost use Rattle.pair_rule.specs.declared.view.Standing.TheVariants.{Seated};
 
 use crate::buf::CellBuf;
@@ -79,6 +82,63 @@ impl<C: Content> RecvSeat<C> {
         ensures seat { self.new ≡ record self.old { shelves = slice_set self.old.shelves q (Some shelf) } }
     {
         self.shelves[q as usize] = Some(shelf);
+    }
+}
+
+/// Turns the seat's list to a slot of a lane that is out, the one numbered `index` in it. It does nothing when it runs.
+fn turn_to(seat: &mut Place, lanes: &[Lane], at: usize, index: usize)
+    requires at { at ≤ length lanes.now }
+    requires here { spot lanes.now at + index ≤ length seat.old.me.1 }
+    ensures seat { (seat.new.table_id ≡ seat.old.table_id) × (seat.new.id ≡ seat.old.id) }
+    ensures turned { seat.new.me ≡ (seat.old.me.0, rotated (spot lanes.now at + index) seat.old.me.1) }
+{
+    pass_to(seat, lanes, at);
+    turn_times(seat, index);
+}
+
+/// Turns the list on behind the lane, where `count` slots of the lane are left. It does nothing when it runs.
+fn turn_back(seat: &mut Place, lanes: &[Lane], at: usize, count: usize)
+    requires at { at < length lanes.now }
+    requires here { count + wide (drop (at + 1) lanes.now) ≤ length seat.old.me.1 }
+    ensures seat { (seat.new.table_id ≡ seat.old.table_id) × (seat.new.id ≡ seat.old.id) }
+    ensures turned { seat.new.me
+        ≡ (seat.old.me.0, rotated (count + wide (drop (at + 1) lanes.now)) seat.old.me.1) }
+{
+    turn_times(seat, count);
+    pass_from(seat, lanes, at + 1);
+}
+
+/// A copy of the buffer that a slot has, where it is short.
+#[inline]
+fn copy_held(held: &Option<CellBuf>) -> Option<CellBuf>
+    ensures { IfSome result (λ b. held.now ≡ Some b) }
+{
+    match held {
+        Some(buf) => buf.copy(),
+        None => None,
+    }
+}
+
+/// The buffer that a slot has, or a copy of it where it is short, which leaves the slot as it is.
+#[inline]
+fn lend_held(held: &mut Option<CellBuf>) -> CellBuf
+    requires { (buf : Buf) × (held.old ≡ Some buf) }
+    ensures found { held.old ≡ Some result }
+    ensures left { IsLeft result held.new }
+{
+    match copy_held(held) {
+        Some(buf) => buf,
+        None => held.take().unwrap(),
+    }
+}
+
+/// Puts a buffer into a slot that is empty. One that has a buffer keeps it.
+#[inline]
+fn put_held(held: &mut Option<CellBuf>, buf: CellBuf)
+    ensures { held.new ≡ Some (or_own buf held.old) }
+{
+    if held.is_none() {
+        *held = Some(buf);
     }
 }
 
@@ -190,7 +250,62 @@ impl<C: Content> Pair<C> {
         )
     }
 
-    /// The buffers of partition `q` go onto the shelf, the first one first.
+    /// Lends the buffer of a cell of partition `q`, `index` cells behind its first one: a short one is copied.
+    fn lend_part(
+        &self,
+        seat: &mut Place,
+        lanes: &[Lane],
+        place: u32,
+        q: u32,
+        index: usize,
+    ) -> CellBuf
+        requires pair { IsOf seat.old.table_id seat.old.me.0 self.now }
+        requires lanes { AreLanes seat.old.me.0 (length seat.old.me.1) lanes.now }
+        requires place { place < self.now.key.geometry.depth }
+        requires out { HasFlags true true q lanes.now }
+        requires index { index < cells_of seat.old.me.0.geometry q }
+        requires held { (buf : Buf) × IsPartOut lanes.now place q index (Some buf) seat.old.me }
+        ensures seat { (seat.new.table_id ≡ seat.old.table_id) × (seat.new.id ≡ seat.old.id) }
+        ensures found { IsPartOut lanes.now place q index (Some result) seat.old.me }
+        ensures slots { (left : Option Buf) × IsLeft result left
+            × (seat.new.me ≡ with_part_value lanes.now place q index left seat.old.me) }
+    {
+        let (first, after) = self.tables.received(q as usize);
+        let slot = place as usize * slot_row(&self.tables) + first + index;
+        turn_to(seat, lanes, q as usize, index);
+        let buf = lend_held(seat.slot_mut(&self.table.shared, slot));
+        turn_back(seat, lanes, q as usize, after - first - index);
+        buf
+    }
+
+    /// Puts a buffer into the slot of a cell of partition `q`, `index` cells behind its first one, if it is empty.
+    fn put_part(
+        &self,
+        seat: &mut Place,
+        lanes: &[Lane],
+        place: u32,
+        q: u32,
+        index: usize,
+        buf: CellBuf,
+    )
+        requires pair { IsOf seat.old.table_id seat.old.me.0 self.now }
+        requires lanes { AreLanes seat.old.me.0 (length seat.old.me.1) lanes.now }
+        requires place { place < self.now.key.geometry.depth }
+        requires out { HasFlags true true q lanes.now }
+        requires index { index < cells_of seat.old.me.0.geometry q }
+        requires held { (old : Option Buf) × IsPartOut lanes.now place q index old seat.old.me }
+        ensures seat { (seat.new.table_id ≡ seat.old.table_id) × (seat.new.id ≡ seat.old.id) }
+        ensures slots { (old : Option Buf) × IsPartOut lanes.now place q index old seat.old.me
+            × (seat.new.me ≡ with_part_value lanes.now place q index (Some (or_own buf old)) seat.old.me) }
+    {
+        let (first, after) = self.tables.received(q as usize);
+        let slot = place as usize * slot_row(&self.tables) + first + index;
+        turn_to(seat, lanes, q as usize, index);
+        put_held(seat.slot_mut(&self.table.shared, slot), buf);
+        turn_back(seat, lanes, q as usize, after - first - index);
+    }
+
+    /// The buffers of partition `q`, or copies of them, go onto the shelf, the first one first.
     fn lend_row(&self, seat: &mut Place, lanes: &[Lane], place: u32, q: u32, shelf: &mut Shelf)
         requires pair { IsOf seat.old.table_id seat.old.me.0 self.now }
         requires lanes { AreLanes seat.old.me.0 (length seat.old.me.1) lanes.now }
@@ -199,7 +314,8 @@ impl<C: Content> Pair<C> {
         requires held { AreFull lanes.now place q seat.old.me }
         requires room { (shelf.old.bufs ≡ []) × (cells_of seat.old.me.0.geometry q ≤ shelf.old.room) }
         ensures seat { (seat.new.table_id ≡ seat.old.table_id) × (seat.new.id ≡ seat.old.id) }
-        ensures slots { seat.new.me ≡ emptied lanes.now place q seat.old.me }
+        ensures slots { (left : List (Option Buf)) × AreLeft shelf.new.bufs left
+            × (seat.new.me ≡ with_part lanes.now place q left seat.old.me) }
         ensures long { length seat.new.me.1 ≡ length seat.old.me.1 }
         ensures size { length shelf.new.bufs ≡ cells_of seat.old.me.0.geometry q }
         ensures room { shelf.old.room ≤ shelf.new.room }
@@ -207,29 +323,32 @@ impl<C: Content> Pair<C> {
     {
         let (first, after) = self.tables.received(q as usize);
         for index in 0..after - first {
-            let buf = self.swap_part(seat, lanes, place, q, index, None).unwrap();
+            let buf = self.lend_part(seat, lanes, place, q, index);
             shelf.push(buf);
         }
     }
 
-    /// The buffers of the shelf go into the slots of partition `q`, the last one first.
+    /// The buffers of the shelf go into the slots of partition `q` that are empty, the last one first.
     fn put_row(&self, seat: &mut Place, lanes: &[Lane], place: u32, q: u32, shelf: &mut Shelf)
         requires pair { IsOf seat.old.table_id seat.old.me.0 self.now }
         requires lanes { AreLanes seat.old.me.0 (length seat.old.me.1) lanes.now }
         requires place { place < self.now.key.geometry.depth }
         requires out { HasFlags true true q lanes.now }
         requires full { length shelf.old.bufs ≡ cells_of seat.old.me.0.geometry q }
-        requires held { IsRow lanes.now place q (replicate (cells_of seat.old.me.0.geometry q) None) seat.old.me }
+        requires of { let d = seat.old.me.0 in
+            AreOf d.geometry d.recv.round (first_received d.geometry q) shelf.old.bufs }
+        requires held { AreLent lanes.now place q seat.old.me }
         ensures seat { (seat.new.table_id ≡ seat.old.table_id) × (seat.new.id ≡ seat.old.id) }
-        ensures slots { seat.new.me ≡ with_part lanes.now place q (map Some shelf.old.bufs) seat.old.me }
+        ensures slots { let d = seat.old.me.0 in (bufs : List Buf) × (length bufs ≡ cells_of d.geometry q)
+            × AreOf d.geometry d.recv.round (first_received d.geometry q) bufs
+            × (seat.new.me ≡ with_part lanes.now place q (map Some bufs) seat.old.me) }
         ensures long { length seat.new.me.1 ≡ length seat.old.me.1 }
         ensures shelf { (shelf.new.bufs ≡ []) × (shelf.new.room ≡ shelf.old.room) }
     {
         while shelf.len() > 0 {
             let buf = shelf.pop();
             let index = shelf.len();
-            let old = self.swap_part(seat, lanes, place, q, index, Some(buf));
-            let None = old else { unreachable!() };
+            self.put_part(seat, lanes, place, q, index, buf);
         }
     }
 
@@ -266,29 +385,36 @@ impl<C: Content> Pair<C> {
         let None = old else { unreachable!() };
     }
 
-    /// Takes the buffers of all cells of partition `q` at a place out of their slots, which are out with the seat,
-    /// and puts them on an empty shelf with room for them, in the order of the cells. It takes no memory.
+    /// Puts the buffers of all cells of partition `q` at a place, whose slots are out with the seat, on an empty shelf
+    /// with room for them, in the order of the cells. A short buffer is copied and stays in its slot. It takes no
+    /// memory.
     pub fn lend_all(&self, seat: &mut RecvSeat<C>, place: u32, q: u32, shelf: &mut Shelf)
         requires pair { IsOf seat.old.table seat.old.view self.now }
         requires place { place < self.now.key.geometry.depth }
         requires out { HasFlags true true q seat.old.lanes }
         requires held { (bufs : List Buf) × HasOut place q (map Some bufs) seat.old }
         requires room { (shelf.old.bufs ≡ []) × (cells_of seat.old.view.geometry q ≤ shelf.old.room) }
-        ensures seat { seat.new ≡ with_values place q (replicate (cells_of seat.old.view.geometry q) None) seat.old }
+        ensures seat { (left : List (Option Buf)) × AreLeft shelf.new.bufs left
+            × (seat.new ≡ with_values place q left seat.old) }
         ensures shelf { HasOut place q (map Some shelf.new.bufs) seat.old × (shelf.old.room ≤ shelf.new.room) }
     {
         self.lend_row(&mut seat.seat, &seat.lanes, place, q, shelf);
     }
 
-    /// Puts the buffers of a shelf into the slots of all cells of partition `q` at a place, which are out with the
-    /// seat and empty, in the order of the cells. The shelf is empty then.
+    /// Puts the buffers of a shelf into the empty ones of the slots of all cells of partition `q` at a place, which are
+    /// out with the seat, in the order of the cells. All have a buffer of the round and the cell's length then, and the
+    /// shelf is empty.
     pub fn put_all(&self, seat: &mut RecvSeat<C>, place: u32, q: u32, shelf: &mut Shelf)
         requires pair { IsOf seat.old.table seat.old.view self.now }
         requires place { place < self.now.key.geometry.depth }
         requires out { HasFlags true true q seat.old.lanes }
         requires full { length shelf.old.bufs ≡ cells_of seat.old.view.geometry q }
-        requires held { HasOut place q (replicate (cells_of seat.old.view.geometry q) None) seat.old }
-        ensures seat { seat.new ≡ with_values place q (map Some shelf.old.bufs) seat.old }
+        requires of { let d = seat.old.view in
+            AreOf d.geometry d.recv.round (first_received d.geometry q) shelf.old.bufs }
+        requires held { HasLeft place q seat.old }
+        ensures seat { let d = seat.old.view in (bufs : List Buf) × (length bufs ≡ cells_of d.geometry q)
+            × AreOf d.geometry d.recv.round (first_received d.geometry q) bufs
+            × (seat.new ≡ with_values place q (map Some bufs) seat.old) }
         ensures shelf { (shelf.new.bufs ≡ []) × (shelf.new.room ≡ shelf.old.room) }
     {
         self.put_row(&mut seat.seat, &seat.lanes, place, q, shelf);

@@ -9,4 +9,4 @@ pub invariant_of-seat : goal.invariant_of-seat
 invariant_of-seat g c =
     let e = c.put_row.ensures in let me = c.seat.inside.seat.me in let i = c.seat.invariant in
     subst (λ (z : View × ℕ). (z.0.standing ≡ Seated) × (z.0.number ≡ 1) × AreLanes z.0 z.1 c.seat.inside.lanes.items × (length c.seat.inside.shelves.items ≡ z.0.geometry.recv_parts) × (c.seat.inside.round ≡ z.0.recv.round))
-    (λ j. (ap (λ (z : Seat). z.0) (sym e.slots) j, sym e.long j)) i
+    (λ j. (ap (λ (z : Seat). z.0) (sym e.slots.3) j, sym e.long j)) i
