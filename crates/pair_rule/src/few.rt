@@ -19,10 +19,11 @@ pub(crate) fn copy_bytes(to: &mut [u8], from: &[u8])
     }
 }
 
-/// At most `SHORT` bytes, in the value itself, which is as long as a vector. Contracts see the bytes.
+/// At most `SHORT` bytes, in the value itself, which is as long as a vector. They begin where a word does, so that a
+/// number is read from a copy just made without a wait. Contracts see the bytes.
 #[derive(Drop)]
 pub(crate) struct Few {
-    len: u8,
+    len: u64,
     bytes: [u8; SHORT],
 }
 
@@ -44,7 +45,7 @@ impl Few {
         ensures { result ≡ replicate count 0 }
     {
         Few {
-            len: count as u8,
+            len: count as u64,
             bytes: [0; SHORT],
         }
     }

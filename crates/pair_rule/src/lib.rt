@@ -45,4 +45,4 @@ pub(crate) const FREE_SLOTS: usize = 4;
 pub(crate) const FREE_BYTES: usize = 128;
 
 /// The most bytes of a cell that stand in its buffer itself.
-pub(crate) const SHORT: usize = 23;
+pub(crate) const SHORT: usize = 16;
