@@ -4,6 +4,7 @@ pub mod Starting
 pub mod Masks
 pub mod Tested
 pub mod Winning
+pub mod Kept
 pub mod Slots
 pub mod Filling
 pub mod Laid

@@ -1,21 +1,24 @@
 -- A claim that is tried again after each loss: each word found has a bit more beside the partition's, so there are 32 tries at most.
-use Rattle.std.proofs.Common.{◌≡◌, ◌≢◌, ◌⊎◌, ℕ, zero, suc, ◌+◌, ◌%◌, ◌<◌, ◌≤◌, ◌==◌, length, refl, sym, ap, ◌∙◌, subst, arith, inl, inr, length-set}
+use Rattle.std.proofs.Common.{◌≡◌, ◌≢◌, ◌⊎◌, ℕ, zero, suc, ◌+◌, ◌/◌, ◌%◌, ◌<◌, ◌≤◌, ◌==◌, List, Err, length, refl, sym, ap, ◌∙◌, subst, arith, inl, inr, length-set}
 use native.Mathlib.Decide.{ℕ_discrete}
 use Rattle.std.specs.Prelude.{slice_set}
 use Rattle.std.proofs.lemmas.Bool.{cases_eq, cases_lt}
-use Rattle.std.proofs.lemmas.List.{get_or-set_same, set-set}
+use Rattle.std.proofs.lemmas.List.{get_or-set_same, set-get_or, set-set}
 use Rattle.std.proofs.lemmas.Nat.Bits.{same_from_bits_below}
 use Rattle.gate_word.specs.Words.{word_of, round_in, shut_in, bits_in}
 use Rattle.gate_word.specs.Order.{IsLater}
 use Rattle.gate_word.proofs.Packing.{read, bits-small}
 use Rattle.pair_core.specs.Words.{bit}
-use Rattle.pair_core.specs.Names.{Name, Fits, number, pick}
+use Rattle.pair_core.specs.Names.{Name, Claim, Fits, claim_words, number, pick}
 use Rattle.pair_core.proofs.Facts.{bit_lt, later_bit, number_lt}
+use Rattle.pair_rule.specs.Seats.{MarkHeld}
 use Rattle.pair_rule.specs.Views.{seen, looks, saw}
 use Rattle.pair_rule.specs.declared.view.View.{View}
 use Rattle.part_send.specs.Ends.{IsWide}
 use Rattle.part_send.specs.Looking.{saw_often, HasSeen}
-use Rattle.part_send.specs.Marking.{Lets}
+use Rattle.part_send.specs.Marking.{IsRight, Lets, Refuses, Claims}
+use Rattle.part_send.specs.declared.answers.ReadyRefusal.{ReadyRefusal}
+use Rattle.part_send.specs.declared.answers.ReadyRefusal.TheVariants.{BadPartition, BadLength, NotActive, AlreadyMarked, BadRange}
 use Rattle.part_send.proofs.Masks.{word_bit}
 
 -- bit n of a word, but 0 where n is q
@@ -143,9 +146,55 @@ module _ (d : View) (wide : IsWide d) (x : Name) (fits : Fits d.geometry x) wher
   pub often_found : (n w : ℕ) → 1 ≤ n → IsLater (seen d x) w → HasSeen d (saw_often n x w d) x w
   often_found n w some later = record { looked = (let e = often_looks n w in omega arith); shown = often_seen n w; later = later }
 
+-- a seat with n looks whose exchange is lost then has one more
+pub lost_often : (s : MarkHeld) → IsWide s.view → (x : Name) → Fits s.view.geometry x → (n m v w : ℕ) (a b : MarkHeld) → a ≡ record s { view = saw_often n x v s.view }
+    → b ≡ record a { view = saw x w a.view } → m ≡ n + 1 → b ≡ record s { view = saw_often m x w s.view }
+lost_often s wide x fits n m v w a b at lost many =
+    lost ∙ (ap (λ (z : MarkHeld). record z { view = saw x w z.view }) at
+    ∙ ap (λ (d : View). record s { view = d }) (saw_next s.view wide x fits n v w ∙ ap (λ (z : ℕ). saw_often z x w s.view) (sym many)))
+
+-- no look, where the word is the one that was seen, leaves the view as it is
+pub saw_none : (d : View) (x : Name) (n w : ℕ) → n ≡ 0 → w ≡ seen d x → saw_often n x w d ≡ d
+saw_none d x n w none is =
+    let count : looks d x + n ≡ looks d x = omega arith in
+    let words : slice_set d.seen (number d.geometry x) w ≡ d.seen = ap (slice_set d.seen (number d.geometry x)) is ∙ set-get_or d.seen (number d.geometry x) 0 in
+    let counts : slice_set d.looks (number d.geometry x) (looks d x + n) ≡ d.looks = ap (slice_set d.looks (number d.geometry x)) count ∙ set-get_or d.looks (number d.geometry x) 0 in
+    (λ i. record d { seen = words i; looks = counts i })
+
 -- they leave a word and a count for each word of the pair
 pub often_wide : (n : ℕ) (x : Name) (w : ℕ) (d : View) → IsWide d → IsWide (saw_often n x w d)
 often_wide n x w d wide = record {
   words = length-set d.seen (number d.geometry x) w ∙ wide.words;
   counts = length-set d.looks (number d.geometry x) (looks d x + n) ∙ wide.counts;
 }
+
+-- a word that lets a partition be claimed doesn't refuse it
+lets_or_refuses : (w k p : ℕ) (cause : ReadyRefusal) → Lets w k p → Refuses w k p cause → ⊥
+lets_or_refuses w k p (NotActive shown) lets why = elim why.1 [
+  | inl other ↦ other lets.0
+  | inr shut ↦ absurd (let clear = lets.1 in omega arith)
+]
+lets_or_refuses w k p (AlreadyMarked shown) lets why = absurd (let free = lets.2 in let has = why.3 in omega arith)
+lets_or_refuses w k p BadPartition lets why = why
+lets_or_refuses w k p BadLength lets why = why
+lets_or_refuses w k p BadRange lets why = why
+
+-- so a claim that is refused by the word seen last has looked, where it looks unless the word lets it be claimed
+pub refused_often : (s : MarkHeld) → IsWide s.view → (n k p w : ℕ) (bs : List ℕ) (a : MarkHeld) (cause : ReadyRefusal) → IsRight s.view.geometry p bs
+    → a ≡ record s { view = saw_often n (Claim (p / 32)) w s.view } → IsLater (seen s.view (Claim (p / 32))) w → (n ≡ 0 → Lets w k p) → Refuses w k p cause → Claims s a k p bs n (Err cause)
+refused_often s wide n k p w bs a cause right at later lets why =
+    let there : p / 32 < claim_words s.view.geometry = (let low = right.0 in omega arith) in
+    let some : 1 ≤ n = elim (cases_eq n 0) [
+      | inl none ↦ absurd (lets_or_refuses w k p cause (lets none) why)
+      | inr more ↦ omega arith
+    ] in
+    let view : a.view ≡ saw_often n (Claim (p / 32)) w s.view = ap (λ (z : MarkHeld). z.view) at in (
+      at ∙ ap (λ (d : View). record s { view = d }) (sym view),
+      record {
+        right = right;
+        shown = w;
+        view = view;
+        seen = subst (λ (d : View). HasSeen s.view d (Claim (p / 32)) w) (sym view) (often_found s.view wide (Claim (p / 32)) there n w some later);
+        why = why;
+      },
+    )

@@ -1,5 +1,5 @@
 -- The send end and its markers, each by the view of its seat, as they are between two calls.
-use Rattle.std.specs.Prelude.{◌≡◌, ℕ, ◌+◌, Bool, false, ◌==◌, ◌&&◌, if◌then◌else◌, [], length, fold, Result, Ok, Err}
+use Rattle.std.specs.Prelude.{◌≡◌, ℕ, ◌+◌, ◌<◌, Bool, false, ◌==◌, ◌&&◌, if◌then◌else◌, [], length, fold, Result, Ok, Err}
 use Rattle.std.specs.Prelude.{None}
 use Rattle.std.specs.List.{range_with_len}
 use Rattle.part_geometry.specs.Shape.{IsShape}
@@ -7,12 +7,12 @@ use Rattle.part_geometry.specs.Pieces.{pieces}
 use Rattle.part_geometry.specs.declared.TheConstants.{LAST_ROUND}
 use Rattle.part_geometry.specs.declared.answers.StartFault.{StartFault}
 use Rattle.part_geometry.specs.declared.answers.StartFault.TheVariants.{AlreadyActive, RoundsSpent}
-use Rattle.pair_core.specs.Names.{claim_words}
+use Rattle.pair_core.specs.Names.{Claim, claim_words}
 use Rattle.pair_core.specs.Core.{IsMarker}
 use Rattle.pair_core.specs.Moves.{IsSendIdle}
 use Rattle.pair_core.specs.State.{word_count}
 use Rattle.pair_rule.specs.Seats.{MarkHeld}
-use Rattle.pair_rule.specs.Views.{stored_piece, stored_claim}
+use Rattle.pair_rule.specs.Views.{seen, stored_piece, stored_claim}
 use Rattle.pair_rule.specs.declared.view.View.{View}
 
 -- the send side is active: its round's claim words are open
@@ -38,6 +38,10 @@ pub record IsFree (s : MarkHeld) : Type 0 where
   pub none : s.view.pending ≡ None
   pub home : s.out ≡ []
   pub wide : IsWide s.view
+
+-- where n is the number of a claim word, the view has seen that word as w
+abbrev pub IsTold : View → ℕ → ℕ → Type 0
+IsTold d n w = n < claim_words d.geometry → seen d (Claim n) ≡ w
 
 -- a start is refused where the side is active, or has had all rounds, and else gives the next round
 abbrev pub start_answer : View → Result ℕ StartFault

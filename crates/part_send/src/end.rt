@@ -12,6 +12,7 @@ ghost use Rattle.pair_rule.specs.Seats.{IsOf};
 ghost use Rattle.part_send.specs.Ends.{is_active};
 
 use crate::marker::Marker;
+use crate::told::none_told;
 use pair_rule::{Content, Note, Pair, SendSeat};
 use std::marker::Model;
 
@@ -102,7 +103,10 @@ impl<C: Content> SendEnd<C> {
         let _round = self.seat.round();
         let seat = pair.split_marker(&mut self.seat);
         self.out += 1;
-        Marker { seat }
+        Marker {
+            seat,
+            told: none_told(),
+        }
     }
 
     /// Takes a marker back. The end has then seen what both have seen, and has the marks of both; then it looks at

@@ -14,6 +14,7 @@ mod ready;
 mod start;
 mod steps;
 mod test;
+mod told;
 
 pub use answers::{ReadyRefusal, ReadyStop, SendTest};
 pub use end::SendEnd;

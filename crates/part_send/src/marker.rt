@@ -7,6 +7,7 @@ ghost use Rattle.pair_rule.specs.First.{note};
 ghost use Rattle.pair_rule.specs.Views.{seen, saw, told};
 ghost use Rattle.pair_rule.specs.Seats.{IsOf};
 
+use crate::told::Told;
 use pair_rule::{Content, MarkSeat, Note, Pair};
 use std::marker::Model;
 
@@ -14,17 +15,18 @@ use std::marker::Model;
 /// that is dropped is never taken back, and its pair can't be closed.
 pub struct Marker<C: Content> {
     pub(crate) seat: MarkSeat<C>,
+    pub(crate) told: Told,
 }
 
 impl<C: Content> Model for Marker<C> {
     ghost use Rattle.pair_rule.specs.Seats.{Held};
-    ghost use Rattle.part_send.specs.Ends.{IsFree};
+    ghost use Rattle.part_send.specs.Ends.{IsFree, IsTold};
 
     ghost Value = { Held };
 
     ghost view = { λ m. record { table = m.seat.table; view = m.seat.view } };
 
-    ghost invariant = { λ m. IsFree m.seat };
+    ghost invariant = { λ m. IsFree m.seat × IsTold m.seat.view m.told.number m.told.word };
 }
 
 impl<C: Content> Marker<C> {
@@ -33,7 +35,7 @@ impl<C: Content> Marker<C> {
         ensures seat { (result.table ≡ self.table) × (result.view ≡ self.view) }
         ensures idle { (result.view.pending ≡ None) × (result.out ≡ []) }
     {
-        let Marker { seat } = self;
+        let Marker { seat, told: _ } = self;
         seat
     }
 
@@ -46,8 +48,8 @@ impl<C: Content> Marker<C> {
         ensures told { (w : ℕ) × IsLater (seen (told self.old.view note.view) (Claim 0)) w
             × (self.new ≡ record self.old { view = saw (Claim 0) w (told self.old.view note.view) }) }
     {
-        // The word found is in the marker's view, which contracts alone see.
-        let _found = pair.learn_marker(&mut self.seat, note);
+        let word = pair.learn_marker(&mut self.seat, note);
+        self.told = Told { number: 0, word };
     }
 
     /// A note of what the marker has seen, for another seat of the pair to learn. It may be dropped.
@@ -63,6 +65,6 @@ impl<C: Content> Marker<C> {
 
 impl<C: Content> Drop for Marker<C> {
     fn drop(self) {
-        let Marker { seat: _ } = self;
+        let Marker { seat: _, told: _ } = self;
     }
 }

@@ -72,8 +72,8 @@ impl<C: Content> Marker<C> {
         self.pready_counted(pair, round, partition, bytes, &mut steps)
     }
 
-    /// The same, with a count of the steps on the partition's claim word: one load and at most 32 exchanges. It makes
-    /// no step on another claim word.
+    /// The same, with a count of the steps on the partition's claim word: at most one load, and at most 32 exchanges.
+    /// It makes no step on another claim word.
     pub fn pready_counted<L: Ledger>(
         &mut self,
         pair: &Pair<C>,
@@ -91,7 +91,15 @@ impl<C: Content> Marker<C> {
         ensures steps { (steps.old ≤ steps.new) × (steps.new ≤ steps.old + 33) }
     {
         refuse(pair.geometry(), partition, bytes)?;
-        claim(&mut self.seat, pair, round, partition, bytes, steps)?;
+        claim(
+            &mut self.seat,
+            &mut self.told,
+            pair,
+            round,
+            partition,
+            bytes,
+            steps,
+        )?;
         fill(&mut self.seat, pair, round, partition, bytes);
         let sent = lay(&mut self.seat, pair, round, partition);
         Ok(Marked {

@@ -1,31 +1,86 @@
-use Rattle.std.proofs.Common.{ℕ, ◌+◌, ◌/◌, ◌%◌, ◌<◌, ap, ◌∙◌, arith}
+use Rattle.std.proofs.Common.{◌≡◌, ℕ, ◌+◌, ◌-◌, ◌*◌, ◌/◌, ◌%◌, ◌^◌, ◌<◌, bit_or, ap, ◌∙◌, subst, arith}
+use Rattle.std.proofs.lemmas.Result.{err_from_is_err_and}
 use Rattle.pair_core.specs.Names.{Claim, claim_words}
 use Rattle.pair_core.proofs.Facts.{later_trans}
+use Rattle.pair_rule.specs.Marking.{HasWon}
 use Rattle.pair_rule.specs.Seats.{MarkHeld}
-use Rattle.pair_rule.specs.Views.{seen, saw}
-use Rattle.pair_rule.specs.declared.view.View.{View}
-use Rattle.part_send.proofs.Winning.{others_few, one_more, saw_next}
+use Rattle.pair_rule.specs.Views.{seen}
+use Rattle.part_send.proofs.Kept.{often_told, won_told}
+use Rattle.part_send.proofs.Masks.{shifted}
+use Rattle.part_send.proofs.Winning.{others_few, one_more, lost_often, refused_often}
 use Rattle.part_send.proofs.claim.claim.Goals as goal
+
+pub returns-in_err-refuse_word-clause-answer : goal.returns-in_err-refuse_word-clause-answer
+returns-in_err-refuse_word-clause-answer g c =
+    let i = c.loop.invariant in let least = i.least in
+    let p = err_from_is_err_and c.from_residual.result c.from_residual.ensures.1 in
+    rw (p.1, p.2)
+    (refused_often c.args.seat.now c.requires.free.wide (c.loop.steps - c.args.steps.now) c.args.round c.args.partition c.loop.told.word c.args.bytes.now c.loop.seat
+    c.in_err-refuse_word.field-0.0 c.requires.right i.seat i.later (λ none. i.lets (omega arith)) c.in_err-refuse_word.ensures)
+
+pub returns-in_err-refuse_word-2-clause-answer : goal.returns-in_err-refuse_word-2-clause-answer
+returns-in_err-refuse_word-2-clause-answer g c =
+    let i = c.loop.invariant in let least = i.least in
+    let p = err_from_is_err_and c.from_residual-in_err-refuse_word-2.result c.from_residual-in_err-refuse_word-2.ensures.1 in
+    rw (p.1, p.2)
+    (refused_often c.args.seat.now c.requires.free.wide (c.loop.steps - c.args.steps.now) c.args.round c.args.partition c.loop.told.word c.args.bytes.now c.loop.seat
+    c.in_err-refuse_word-2.field-0.0 c.requires.right i.seat i.later (λ none. i.lets (omega arith)) c.in_err-refuse_word-2.ensures)
+
+pub returns-in_err-refuse_word-clause-told : goal.returns-in_err-refuse_word-clause-told
+returns-in_err-refuse_word-clause-told g c =
+    let i = c.loop.invariant in
+    often_told c.args.seat.now c.requires.free.wide c.loop.seat (c.args.partition / 32) c.loop.told.number (c.loop.steps - c.args.steps.now) c.loop.told.word i.seat i.number
+
+pub returns-in_err-refuse_word-2-clause-told : goal.returns-in_err-refuse_word-2-clause-told
+returns-in_err-refuse_word-2-clause-told g c =
+    let i = c.loop.invariant in
+    often_told c.args.seat.now c.requires.free.wide c.loop.seat (c.args.partition / 32) c.loop.told.number (c.loop.steps - c.args.steps.now) c.loop.told.word i.seat i.number
+
+pub returns-then-found-told-clause-answer : goal.returns-then-found-told-clause-answer
+returns-then-found-told-clause-answer g c =
+    let i = c.loop.invariant in let p : ℕ = c.args.partition in
+    let least = i.least in let tick = c.tick.ensures in
+    record {
+      shown = c.loop.told.word;
+      lost = c.loop.steps - c.args.steps.now;
+      steps = omega arith;
+      lets = c.in_ok-refuse_word.ensures;
+      later = i.later;
+      won = subst (λ (z : MarkHeld). HasWon c.loop.told.word p c.args.bytes.now z c.try_claim-found.new.seat) i.seat
+          (c.try_claim-found.ensures.won c.if-found-told.true);
+    }
+
+pub returns-then-found-told-clause-told : goal.returns-then-found-told-clause-told
+returns-then-found-told-clause-told g c =
+    let i = c.loop.invariant in let p : ℕ = c.args.partition in let found : ℕ = c.try_claim-found.result in
+    let word : bit_or found (1 * 2 ^ (p % 32) % 18446744073709551616) ≡ bit_or c.loop.told.word (2 ^ (p % 32)) = ap (bit_or found) (shifted (p % 32) (omega arith))
+    ∙ ap (λ (z : ℕ). bit_or z (2 ^ (p % 32))) c.if-found-told.true in
+    won_told c.args.seat.now.view c.requires.free.wide c.loop.seat c.try_claim-found.new.seat c.loop.told.word p c.loop.told.number (c.loop.steps - c.args.steps.now) _ c.args.bytes.now
+    (ap (λ (z : MarkHeld). z.view) i.seat) (c.try_claim-found.ensures.won c.if-found-told.true) i.number word
 
 pub loop-preserved : goal.loop-preserved
 loop-preserved g c =
-    let i = c.loop.invariant in let old = c.args.seat.now in let p : ℕ = c.args.partition in let w : ℕ = c.try_claim-found.result in let n : ℕ = c.loop.counter in
+    let i = c.loop.invariant in let old = c.args.seat.now in let p : ℕ = c.args.partition in let w : ℕ = c.try_claim-found.result in
     let there : p / 32 < claim_words old.view.geometry = (let low = c.requires.right.0 in omega arith) in
-    let lost = c.try_claim-found.ensures.lost c.if-found-shown.false in
+    let lost = c.try_claim-found.ensures.lost c.if-found-told.false in
+    let tick = c.tick.ensures in let least = i.least in let most = i.most in
+    let many : c.tick.new.self - c.args.steps.now ≡ c.loop.steps - c.args.steps.now + 1 = omega arith in
     record {
-      seat = lost ∙ (ap (λ (z : MarkHeld). record z { view = saw (Claim (p / 32)) w z.view }) i.seat
-          ∙ ap (λ (d : View). record old { view = d }) (saw_next old.view c.requires.free.wide (Claim (p / 32)) there (n + 1) c.loop.shown w));
-      later = later_trans (seen old.view (Claim (p / 32))) c.loop.shown w i.later c.try_claim-found.ensures.later;
-      steps = (let before = i.steps in let tick = c.tick-in-loop.ensures in omega arith);
+      number = i.number;
+      seat = lost_often old c.requires.free.wide (Claim (p / 32)) there (c.loop.steps - c.args.steps.now) (c.tick.new.self - c.args.steps.now) c.loop.told.word w c.loop.seat _ i.seat lost many;
+      later = later_trans (seen old.view (Claim (p / 32))) c.loop.told.word w i.later c.try_claim-found.ensures.later;
+      least = omega arith;
+      most = omega arith;
+      lets = λ none. absurd (omega arith);
       few = λ now.
           let was = c.in_ok-refuse_word.ensures in
           let so = i.few was in
-          let more = one_more c.loop.shown w c.args.round p was now c.try_claim-found.ensures.later c.if-found-shown.false in omega arith;
+          let more = one_more c.loop.told.word w c.args.round p was now c.try_claim-found.ensures.later c.if-found-told.false in omega arith;
     }
 
 pub unreachable-requires : goal.unreachable-requires
 unreachable-requires g c =
     let p : ℕ = c.args.partition in
     let most = c.loop.invariant.few c.in_ok-refuse_word-2.ensures in
-    let few = others_few c.loop.shown (p % 32) 32 (omega arith) in
+    let few = others_few c.loop.told.word (p % 32) 32 (omega arith) in
     let all = c.loop-test.false in omega arith

@@ -13,5 +13,5 @@ returns-clause-answer g c =
     let right : IsRight s.view.geometry c.args.partition c.args.bytes.now = subst (λ (z : Shape). IsRight z c.args.partition c.args.bytes.now) same c.in_ok-refuse.ensures in
     subst (λ (z : Held). HasMarked z.view c.lay-sent.new.seat.view c.args.round c.args.partition c.args.bytes.now n
     record { round = c.args.round; partition = c.args.partition; sent = c.lay-sent.result }) c.self.view_is
-    (has_marked s c.claim.new.seat c.fill.new.seat c.lay-sent.new.seat c.args.round c.args.partition c.args.bytes.now n c.lay-sent.result c.self.invariant right
+    (has_marked s c.claim.new.seat c.fill.new.seat c.lay-sent.new.seat c.args.round c.args.partition c.args.bytes.now n c.lay-sent.result c.self.invariant.0 right
     c.in_ok-claim.ensures.answer c.fill.ensures.seat c.lay-sent.ensures.laid c.lay-sent.ensures.sent)

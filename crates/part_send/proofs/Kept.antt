@@ -1,0 +1,37 @@
+-- The claim word that a marker keeps is the one that its view has seen: after a look, a won claim and a lay.
+use Rattle.std.proofs.Common.{◌≡◌, ℕ, ◌/◌, ◌%◌, ◌^◌, ◌<◌, List, bit_or, sym, ap, ◌∙◌, subst}
+use Rattle.part_geometry.specs.Shape.{Shape}
+use Rattle.pair_core.specs.Names.{Claim, claim_words}
+use Rattle.pair_rule.specs.Seats.{MarkHeld}
+use Rattle.pair_rule.specs.Views.{seen}
+use Rattle.pair_rule.specs.Marking.{HasWon}
+use Rattle.pair_rule.specs.declared.view.View.{View}
+use Rattle.part_send.specs.Ends.{IsWide, IsTold}
+use Rattle.part_send.specs.Looking.{saw_often}
+use Rattle.part_send.specs.Marking.{HasLaid}
+use Rattle.part_send.proofs.Views.{seen_here}
+use Rattle.part_send.proofs.Winning.{often_seen, often_wide}
+
+-- the word that the last look found
+pub often_told : (s : MarkHeld) → IsWide s.view → (a : MarkHeld) (c m n w : ℕ) → a ≡ record s { view = saw_often n (Claim c) w s.view } → m ≡ c → IsTold a.view m w
+often_told s wide a c m n w at is =
+    subst (λ (z : MarkHeld). IsTold z.view m w) (sym at)
+    (subst (λ (z : ℕ). IsTold (saw_often n (Claim c) w s.view) z w) (sym is) (λ inside. often_seen s.view wide (Claim c) inside n w))
+
+-- the word that a won claim left: the one that was shown, with the partition
+pub won_told : (d : View) → IsWide d → (a b : MarkHeld) (shown p m n w : ℕ) (bs : List ℕ) → a.view ≡ saw_often n (Claim (p / 32)) shown d → HasWon shown p bs a b
+    → m ≡ p / 32 → w ≡ bit_or shown (2 ^ (p % 32)) → IsTold b.view m w
+won_told d wide a b shown p m n w bs at won is word inside =
+    let there : p / 32 < claim_words a.view.geometry = subst (λ (z : ℕ). z < claim_words a.view.geometry) is
+    (subst (λ (z : Shape). m < claim_words z) (ap (λ (z : View). z.geometry) won.view) inside) in
+    let wide_at : IsWide a.view = subst IsWide (sym at) (often_wide n (Claim (p / 32)) shown d wide) in
+    ap (λ (z : ℕ). seen b.view (Claim z)) is ∙ (ap (λ (z : View). seen z (Claim (p / 32))) won.view
+    ∙ (seen_here a.view wide_at (Claim (p / 32)) there (bit_or shown (2 ^ (p % 32))) ∙ sym word))
+
+-- a claim that is filled and laid leaves it as it was
+pub laid_told : (a b c : MarkHeld) (m w : ℕ) → IsTold a.view m w → b ≡ record a { out = b.out } → HasLaid b c → IsTold c.view m w
+laid_told a b c m w told filled laid inside =
+    let same : b.view ≡ a.view = ap (λ (z : MarkHeld). z.view) filled in
+    let there : m < claim_words b.view.geometry = subst (λ (z : Shape). m < claim_words z) (ap (λ (z : View). z.geometry) laid.view) inside in
+    let before : m < claim_words a.view.geometry = subst (λ (z : View). m < claim_words z.geometry) same there in
+    (laid.claims m there).0 ∙ (ap (λ (z : View). seen z (Claim m)) same ∙ told before)
