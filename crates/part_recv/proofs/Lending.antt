@@ -1,9 +1,8 @@
--- A take moves the buffers of a partition from its slots onto its shelf, and a return moves them back: the slots that are out
--- are the same but for the partition's own, which are empty while its buffers are on the shelf.
-use Rattle.std.proofs.Common.{◌≡◌, ℕ, zero, suc, ◌/◌, ◌<◌, ◌≤◌, Bool, true, false, List, [], ◌∷◌, map, length, take, drop, replicate, Option, Some, None, refl, sym, ap, ◌∙◌, subst, arith}
+-- A take lends the buffers of a partition onto its shelf, and a return puts them back: the slots that are out are the same but for
+-- the partition's own.
+use Rattle.std.proofs.Common.{◌≡◌, ℕ, zero, suc, ◌/◌, ◌<◌, ◌≤◌, Bool, true, false, List, [], ◌∷◌, map, length, take, drop, Option, Some, refl, sym, ap, ◌∙◌, subst, arith}
 use mathlib.Core.Option.{some}
 use lib.ListN.{get_elem?, length-map}
-use Rattle.std.proofs.lemmas.List.{length-replicate}
 use Rattle.part_geometry.specs.Shape.{Shape}
 use Rattle.part_tables.specs.Parts.{first_received}
 use Rattle.pair_core.specs.Names.{Take, Return}
@@ -16,7 +15,8 @@ use Rattle.pair_rule.specs.Buf.{Buf}
 use Rattle.pair_rule.specs.Views.{seen}
 use Rattle.pair_rule.specs.Steps.{AreOf}
 use Rattle.pair_rule.specs.Seats.{RecvHeld, Room, AreLanes, cells_of}
-use Rattle.pair_rule.specs.Parts.{HasTaken, HasOut, HasFilled, AreTaken, with_values, returned, taken_from, returned_from, without_part, own_slot, first_slot, place_of, spot}
+use Rattle.pair_rule.specs.Parts.{HasTaken, HasOut, HasFilled, AreTaken, AreLeft, with_values, returned, taken_from, returned_from, without_part, own_slot, first_slot, place_of, spot}
+use Rattle.pair_rule.proofs.Leaving.{left_length}
 use Rattle.part_recv.specs.Taking.{bytes_in}
 
 -- there is a lane at each number below their count
@@ -60,24 +60,27 @@ module _ (may : ℕ → ℕ → ℕ → Type 0) (q e found : ℕ) (s t : RecvHel
   same_bufs : (bufs : List Buf) → HasOut e q (map Some bufs) t → h.bufs ≡ bufs
   same_bufs bufs out = same_row (first_slot t.view.geometry e q) h.bufs bufs (sym taken_values.stand ∙ out.stand)
 
-  lent_slots : overlaid (place (flagged true true q s.lanes) q) (first_slot s.view.geometry e q) (replicate (cells_of s.view.geometry q) None) (spliced (place s.lanes q) (own_slot s.view q) (map Some h.bufs) s.slots)
-      ≡ spliced (place s.lanes q) (own_slot s.view q) (replicate (cells_of s.view.geometry q) None) s.slots
-  lent_slots =
-      let g : Shape = s.view.geometry in let nones : List (Option Buf) = replicate (cells_of g q) None in
-      (λ i. overlaid (flagged_place true true q s.lanes i) (first_slot g (there i) q) nones (spliced (place s.lanes q) (own_slot s.view q) (map Some h.bufs) s.slots))
-      ∙ over_spliced (place s.lanes q) (own_slot s.view q) (cells_of g q) nones (map Some h.bufs) s.slots (place_fits s q lanes) (length-replicate (cells_of g q) None) (length-map h.bufs Some ∙ h.are.size)
+  lent_slots : (left : List (Option Buf)) → length left ≡ cells_of s.view.geometry q
+      → overlaid (place (flagged true true q s.lanes) q) (first_slot s.view.geometry e q) left (spliced (place s.lanes q) (own_slot s.view q) (map Some h.bufs) s.slots)
+      ≡ spliced (place s.lanes q) (own_slot s.view q) left s.slots
+  lent_slots left size =
+      let g : Shape = s.view.geometry in
+      (λ i. overlaid (flagged_place true true q s.lanes i) (first_slot g (there i) q) left (spliced (place s.lanes q) (own_slot s.view q) (map Some h.bufs) s.slots))
+      ∙ over_spliced (place s.lanes q) (own_slot s.view q) (cells_of g q) left (map Some h.bufs) s.slots (place_fits s q lanes) size (length-map h.bufs Some ∙ h.are.size)
 
-  -- with the slots emptied onto the shelf, the seat is the one before with q taken and its slots empty
-  pub lent_seat : (shelf : Room) (n : RecvHeld) → n ≡ with_values e q (replicate (cells_of t.view.geometry q) None) t → HasOut e q (map Some shelf.bufs) t → found ≡ seen s.view (Take (q / 32))
+  -- with the buffers lent onto the shelf, the seat is the one before with q taken and its slots as they were left
+  pub lent_seat : (shelf : Room) (left : List (Option Buf)) (n : RecvHeld) → n ≡ with_values e q left t → AreLeft shelf.bufs left → HasOut e q (map Some shelf.bufs) t → found ≡ seen s.view (Take (q / 32))
       → n ≡ record s {
         view = taken_from q (bytes_in shelf.bufs) (seen s.view (Take (q / 32))) s.view;
         lanes = flagged true true q s.lanes;
-        slots = spliced (spot s.lanes q) (own_slot s.view q) (replicate (cells_of s.view.geometry q) None) s.slots;
+        slots = spliced (spot s.lanes q) (own_slot s.view q) left s.slots;
       }
-  lent_seat shelf n is out word =
-      let with : h.with ≡ bytes_in shelf.bufs = sym h.are.bytes ∙ ap bytes_in (same_bufs shelf.bufs out) in
-      is ∙ (ap (λ (z : RecvHeld). with_values e q (replicate (cells_of z.view.geometry q) None) z) h.seat
-      ∙ (λ i. record s { view = taken_from q (with i) (word i) s.view; lanes = flagged true true q s.lanes; slots = lent_slots i }))
+  lent_seat shelf left n is leaves out word =
+      let same = same_bufs shelf.bufs out in
+      let with : h.with ≡ bytes_in shelf.bufs = sym h.are.bytes ∙ ap bytes_in same in
+      let size : length left ≡ cells_of s.view.geometry q = left_length shelf.bufs left leaves ∙ (sym (ap length same) ∙ h.are.size) in
+      is ∙ (ap (λ (z : RecvHeld). with_values e q left z) h.seat
+      ∙ (λ i. record s { view = taken_from q (with i) (word i) s.view; lanes = flagged true true q s.lanes; slots = lent_slots left size i }))
 
   -- the buffers of the shelf are what the take found, with their bytes
   pub lent_are : (shelf : Room) → HasOut e q (map Some shelf.bufs) t → AreTaken may s.view q shelf.bufs (bytes_in shelf.bufs)
@@ -87,22 +90,22 @@ module _ (may : ℕ → ℕ → ℕ → Type 0) (q e found : ℕ) (s t : RecvHel
 
 -- ---- a return
 
-module _ (q e : ℕ) (s : RecvHeld) (shelf : Room) (lanes : AreLanes s.view (length s.slots) s.lanes) (there : e ≡ place_of s.view) (full : length shelf.bufs ≡ cells_of s.view.geometry q) where
-  -- the seat with the buffers in their slots, and the shelf in its place
+module _ (q e : ℕ) (s : RecvHeld) (bufs : List Buf) (lanes : AreLanes s.view (length s.slots) s.lanes) (there : e ≡ place_of s.view) (full : length bufs ≡ cells_of s.view.geometry q) where
+  -- the seat with these buffers in the slots, and the shelf in its place
   abbrev pub filled_seat : List (Option Room) → RecvHeld
-  filled_seat shelves = record (with_values e q (map Some shelf.bufs) s) { shelves = shelves }
+  filled_seat shelves = record (with_values e q (map Some bufs) s) { shelves = shelves }
 
-  block : (take (cells_of s.view.geometry q) (drop (place s.lanes q) (overlaid (place s.lanes q) (first_slot s.view.geometry e q) (map Some shelf.bufs) s.slots)) ≡ row (first_slot s.view.geometry e q) (map Some shelf.bufs))
-      × (without_part s.view.geometry s.lanes q (overlaid (place s.lanes q) (first_slot s.view.geometry e q) (map Some shelf.bufs) s.slots) ≡ without_part s.view.geometry s.lanes q s.slots)
-  block = overlaid_block (place s.lanes q) (first_slot s.view.geometry e q) (cells_of s.view.geometry q) (map Some shelf.bufs) s.slots (place_fits s q lanes) (length-map shelf.bufs Some ∙ full)
+  block : (take (cells_of s.view.geometry q) (drop (place s.lanes q) (overlaid (place s.lanes q) (first_slot s.view.geometry e q) (map Some bufs) s.slots)) ≡ row (first_slot s.view.geometry e q) (map Some bufs))
+      × (without_part s.view.geometry s.lanes q (overlaid (place s.lanes q) (first_slot s.view.geometry e q) (map Some bufs) s.slots) ≡ without_part s.view.geometry s.lanes q s.slots)
+  block = overlaid_block (place s.lanes q) (first_slot s.view.geometry e q) (cells_of s.view.geometry q) (map Some bufs) s.slots (place_fits s q lanes) (length-map bufs Some ∙ full)
 
   -- the slots are filled then, each with a buffer of the round and of its cell's length
-  pub filled_values : (shelves : List (Option Room)) → AreOf s.view.geometry s.view.recv.round (first_received s.view.geometry q) shelf.bufs → HasFilled q (filled_seat shelves)
+  pub filled_values : (shelves : List (Option Room)) → AreOf s.view.geometry s.view.recv.round (first_received s.view.geometry q) bufs → HasFilled q (filled_seat shelves)
   filled_values shelves of = record {
-    bufs = shelf.bufs;
+    bufs = bufs;
     out = record {
-      size = length-map shelf.bufs Some ∙ full;
-      stand = block.0 ∙ ap (λ (z : ℕ). row (first_slot s.view.geometry z q) (map Some shelf.bufs)) there;
+      size = length-map bufs Some ∙ full;
+      stand = block.0 ∙ ap (λ (z : ℕ). row (first_slot s.view.geometry z q) (map Some bufs)) there;
     };
     of = of;
   }

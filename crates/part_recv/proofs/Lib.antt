@@ -3,6 +3,7 @@ pub mod Masks
 pub mod Walking
 pub mod News
 pub mod Lending
+pub mod Beside
 pub mod Opening
 pub mod Bytes
 pub mod Ending

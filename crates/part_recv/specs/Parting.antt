@@ -1,24 +1,27 @@
 -- What a take and a return do to the receive seat and its shelves.
-use Rattle.std.specs.Prelude.{◌≡◌, ℕ, ◌/◌, ◌≤◌, true, false, List, [], replicate, slice_set, Some, None}
+use Rattle.std.specs.Prelude.{◌≡◌, ℕ, ◌/◌, ◌≤◌, true, false, List, [], slice_set, Option, Some, None}
 use mathlib.Core.Option.{some}
 use lib.ListN.{get_elem?}
 use Rattle.pair_core.specs.Names.{Take, Return}
 use Rattle.slot_rows.specs.Lists.{spliced}
 use Rattle.slot_rows.specs.Lanes.{flagged}
 use Rattle.slot_rows.specs.declared.lane.Lane.{Lane}
+use Rattle.pair_rule.specs.Buf.{Buf}
 use Rattle.pair_rule.specs.Views.{seen}
 use Rattle.pair_rule.specs.Seats.{RecvHeld, Room, cells_of}
-use Rattle.pair_rule.specs.Parts.{AreTaken, spot, own_slot, taken_from, returned}
+use Rattle.pair_rule.specs.Parts.{AreTaken, AreLeft, spot, own_slot, taken_from, returned}
 use Rattle.part_recv.specs.Taking.{bytes_in}
 
--- partition q was taken, and its buffers are on the shelf
+-- partition q was taken, and its buffers are on the shelf; its slots are empty, or have them still
 pub record PartTaken (may : ℕ → ℕ → ℕ → Type 0) (q : ℕ) (shelf : Room) (old new : RecvHeld) : Type 0 where
   pub are : AreTaken may old.view q shelf.bufs (bytes_in shelf.bufs)
   pub room : cells_of old.view.geometry q ≤ shelf.room
+  pub left : List (Option Buf)
+  pub leaves : AreLeft shelf.bufs left
   pub seat : new ≡ record old {
     view = taken_from q (bytes_in shelf.bufs) (seen old.view (Take (q / 32))) old.view;
     lanes = flagged true true q old.lanes;
-    slots = spliced (spot old.lanes q) (own_slot old.view q) (replicate (cells_of old.view.geometry q) None) old.slots;
+    slots = spliced (spot old.lanes q) (own_slot old.view q) left old.slots;
     shelves = slice_set old.shelves q None;
   }
 

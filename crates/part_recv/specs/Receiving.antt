@@ -1,5 +1,5 @@
 -- The receive end as callers see it, its rounds and its tests.
-use Rattle.std.specs.Prelude.{◌≡◌, ℕ, zero, suc, ◌+◌, ◌*◌, ◌<◌, ◌≤◌, Bool, true, false, not, ◌==◌, if◌then◌else◌, List, [], map, position, Some, None, Result, Ok, Err, is_ok}
+use Rattle.std.specs.Prelude.{◌≡◌, ℕ, zero, suc, ◌+◌, ◌<◌, ◌≤◌, Bool, true, false, not, ◌==◌, if◌then◌else◌, List, [], map, position, Some, Result, Ok, Err, is_ok}
 use Rattle.std.specs.Option.{option_map_or}
 use mathlib.Core.Option.{some}
 use lib.ListN.{get_elem?}
@@ -13,11 +13,9 @@ use Rattle.part_geometry.specs.Shape.{Shape}
 use Rattle.pair_core.specs.Names.{take_words}
 use Rattle.pair_core.specs.Moves.{IsRecvIdle, IsRecvActive}
 use Rattle.slot_rows.specs.declared.lane.Lane.{Lane}
-use Rattle.slot_rows.specs.Lanes.{rows_of}
-use Rattle.pair_rule.specs.Rule.{slot_row}
 use Rattle.pair_rule.specs.Seats.{RecvHeld, cells_of}
 use Rattle.pair_rule.specs.First.{first_view, receiver}
-use Rattle.pair_rule.specs.Parts.{place_of, first_shelves}
+use Rattle.pair_rule.specs.Parts.{place_of, first_shelves, HasLeft}
 use Rattle.pair_rule.specs.Views.{stored_return, stored_take, released}
 use Rattle.pair_rule.specs.declared.view.View.{View}
 
@@ -54,11 +52,12 @@ pub record IsAtRest (s : RecvHeld) : Type 0 where
 abbrev pub FirstRests : Type 0
 FirstRests = (g : Shape) (s : RecvHeld) → s.view ≡ receiver (first_view g) → s.shelves ≡ first_shelves g → IsAtRest s
 
--- what an end keeps of its seat: the buffers of the partitions that are out are lent, and the others have their shelves
+-- What an end keeps of its seat: each slot of a partition that is out is empty or has a buffer of the round, and the
+-- other partitions have their shelves.
 pub record IsEnd (active : Bool) (watchers : ℕ) (s : RecvHeld) : Type 0 where
   pub side : IsSide active s.view
   pub out : watchers ≡ s.view.recv.watchers
-  pub slots : s.slots ≡ rows_of None (place_of s.view * slot_row s.view.geometry) s.lanes
+  pub slots : (q : ℕ) (l : Lane) → get_elem? s.lanes q ≡ some l → l.out ≡ true → HasLeft (place_of s.view) q s
   pub shelves : (q : ℕ) (l : Lane) → get_elem? s.lanes q ≡ some l → l.out ≡ false → HasShelf q s
 
 -- a start answers the next round, unless the end is active or this round is the last

@@ -1,18 +1,18 @@
 //! How a partition is taken with its buffers, and given back.
 
-ghost use Rattle.std.specs.Prelude.{◌≡◌, [], replicate, length, true, None};
+ghost use Rattle.std.specs.Prelude.{◌≡◌, [], length, true};
 ghost use Rattle.pair_core.specs.Moves.{TakePart, ReturnPart};
 ghost use Rattle.part_tables.specs.Parts.{first_received};
 ghost use Rattle.slot_rows.specs.Lanes.{HasFlags};
 ghost use Rattle.pair_rule.specs.Seats.{IsOf, cells_of};
 ghost use Rattle.pair_rule.specs.Steps.{MayMake, AreOf};
-ghost use Rattle.pair_rule.specs.Parts.{HasOut, place_of};
+ghost use Rattle.pair_rule.specs.Parts.{HasLeft, place_of};
 ghost use Rattle.part_recv.specs.Receiving.{HasShelf};
 ghost use Rattle.part_recv.specs.Parting.{PartTaken, part_returned};
 
 use pair_rule::{Content, Pair, RecvSeat, Shelf};
 
-/// Takes partition `q`, and moves its buffers from their slots onto its shelf.
+/// Takes partition `q`, and lends its buffers onto its shelf.
 pub(crate) fn take_part<C: Content>(pair: &Pair<C>, seat: &mut RecvSeat<C>, q: u32) -> Shelf
     requires pair { IsOf seat.old.table seat.old.view pair.now }
     requires allowed { MayMake seat.old.view (TakePart q []) }
@@ -28,7 +28,7 @@ pub(crate) fn take_part<C: Content>(pair: &Pair<C>, seat: &mut RecvSeat<C>, q: u
     shelf
 }
 
-/// Moves the buffers of a shelf into the slots of partition `q`, which are out and empty, and gives the
+/// Puts the buffers of a shelf into the slots of partition `q`, which are out, where they are empty, and gives the
 /// partition back.
 pub(crate) fn return_part<C: Content>(
     pair: &Pair<C>,
@@ -39,7 +39,7 @@ pub(crate) fn return_part<C: Content>(
     requires pair { IsOf seat.old.table seat.old.view pair.now }
     requires allowed { MayMake seat.old.view (ReturnPart q) }
     requires flags { HasFlags true true q seat.old.lanes }
-    requires out { HasOut (place_of seat.old.view) q (replicate (cells_of seat.old.view.geometry q) None) seat.old }
+    requires out { HasLeft (place_of seat.old.view) q seat.old }
     requires full { length shelf.bufs ≡ cells_of seat.old.view.geometry q }
     requires of { let g = seat.old.view.geometry in
         AreOf g seat.old.view.recv.round (first_received g q) shelf.bufs }

@@ -33,5 +33,7 @@ returns g c =
       room =
           let one = ap (λ (z : Room). z.room) (shelf_one _ _ (sym c.take_shelf-shelf.ensures.shelf ∙ c.requires.shelf.there)) in
           let grows = c.lend_all.ensures.shelf.1 in let wide = c.requires.shelf.wide in omega arith;
-      seat = lent_seat may c.args.q c.place-place.result c.take_bit.result s c.take_bit.new.seat c.lanes-lanes.ensures.kept there h c.lend_all.new.shelf c.lend_all.new.seat c.lend_all.ensures.seat c.lend_all.ensures.shelf.0 word;
+      left = c.lend_all.ensures.seat.0;
+      leaves = c.lend_all.ensures.seat.1;
+      seat = lent_seat may c.args.q c.place-place.result c.take_bit.result s c.take_bit.new.seat c.lanes-lanes.ensures.kept there h c.lend_all.new.shelf c.lend_all.ensures.seat.0 c.lend_all.new.seat c.lend_all.ensures.seat.2 c.lend_all.ensures.seat.1 c.lend_all.ensures.shelf.0 word;
     }

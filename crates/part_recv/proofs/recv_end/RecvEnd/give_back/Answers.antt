@@ -7,7 +7,7 @@ use Rattle.slot_rows.proofs.Lists.{at_split}
 use Rattle.pair_rule.specs.Seats.{RecvHeld, cells_of}
 use Rattle.pair_rule.specs.Steps.{MayMake}
 use Rattle.part_recv.specs.Receiving.{End, IsEnd}
-use Rattle.part_recv.proofs.Ending.{side_flag, side_active, out_active, out_values, end_returns, taken_bit, out_bit}
+use Rattle.part_recv.proofs.Ending.{side_flag, side_active, out_active, end_returns, taken_bit, out_bit}
 use Rattle.part_recv.proofs.recv_end.RecvEnd.give_back.Goals as goal
 
 pub return_part-requires-clause-allowed : goal.return_part-requires-clause-allowed
@@ -26,7 +26,7 @@ pub return_part-requires-clause-out : goal.return_part-requires-clause-out
 return_part-requires-clause-out g c =
     let s : RecvHeld = c.self.inside.seat in let q = c.partition-q.result in
     let h : HasFlags true true q s.lanes = subst (λ (z : ℕ × List Lane). HasFlags true true z.0 z.1) (λ i. (sym c.partition-q.ensures i, (sym c.self.view_is i).lanes)) c.requires.out.out in
-    out_values c.self.inside.active c.self.inside.watchers q s c.lanes-lanes.ensures.kept h c.self.invariant
+    c.self.invariant.slots q h.lane h.at h.out
 
 pub invariant_of-self : goal.invariant_of-self
 invariant_of-self g c =
