@@ -1,14 +1,17 @@
--- The claim word that a marker keeps is the one that its view has seen: after a look, a won claim and a lay.
-use Rattle.std.proofs.Common.{◌≡◌, ℕ, ◌/◌, ◌%◌, ◌^◌, ◌<◌, List, bit_or, sym, ap, ◌∙◌, subst}
-use Rattle.part_geometry.specs.Shape.{Shape}
+-- A marker between two calls: no claim pends, and the claim word that it keeps is the one that its view has seen, after
+-- a look, a won claim and a lay.
+use Rattle.std.proofs.Common.{◌≡◌, ℕ, ◌/◌, ◌%◌, ◌^◌, ◌<◌, List, [], bit_or, sym, ap, ◌∙◌, subst}
+use Rattle.part_geometry.specs.Shape.{Shape, IsShape}
 use Rattle.pair_core.specs.Names.{Claim, claim_words}
+use Rattle.pair_core.specs.Core.{IsMarker}
 use Rattle.pair_rule.specs.Seats.{MarkHeld}
 use Rattle.pair_rule.specs.Views.{seen}
 use Rattle.pair_rule.specs.Marking.{HasWon}
 use Rattle.pair_rule.specs.declared.view.View.{View}
-use Rattle.part_send.specs.Ends.{IsWide, IsTold}
+use Rattle.part_send.specs.Ends.{IsWide, IsFree, IsTold}
 use Rattle.part_send.specs.Looking.{saw_often}
-use Rattle.part_send.specs.Marking.{HasLaid}
+use Rattle.part_send.specs.Marking.{IsRefused, HasClaimed, HasLaid}
+use Rattle.part_send.specs.declared.answers.ReadyRefusal.{ReadyRefusal}
 use Rattle.part_send.proofs.Views.{seen_here}
 use Rattle.part_send.proofs.Winning.{often_seen, often_wide}
 
@@ -35,3 +38,29 @@ laid_told a b c m w told filled laid inside =
     let there : m < claim_words b.view.geometry = subst (λ (z : Shape). m < claim_words z) (ap (λ (z : View). z.geometry) laid.view) inside in
     let before : m < claim_words a.view.geometry = subst (λ (z : View). m < claim_words z.geometry) same there in
     (laid.claims m there).0 ∙ (ap (λ (z : View). seen z (Claim m)) same ∙ told before)
+
+-- a seat whose claim is refused is free still
+pub free_still : (a b : MarkHeld) (k p : ℕ) (bs : List ℕ) (n : ℕ) (cause : ReadyRefusal) → IsFree a → b ≡ record a { view = b.view } → IsRefused a.view b.view k p bs n cause → IsFree b
+free_still a b k p bs n cause free at refused =
+    subst IsFree (sym (at ∙ ap (λ (z : View). record a { view = z }) refused.view)) record {
+      shape = free.shape;
+      marker = free.marker;
+      none = free.none;
+      home = free.home;
+      wide = often_wide n (Claim (p / 32)) refused.shown a.view free.wide;
+    }
+
+-- and one whose claim is won, filled and laid is free again
+pub free_again : (a b c d : MarkHeld) (k p : ℕ) (bs : List ℕ) (n : ℕ) → IsFree a → HasClaimed a b k p bs n → c ≡ record b { out = c.out } → HasLaid c d → d.out ≡ [] → IsWide d.view → IsFree d
+free_again a b c d k p bs n free won filled laid home wide =
+    let shape : d.view.geometry ≡ a.view.geometry = ap (λ (z : View). z.geometry) laid.view
+    ∙ (ap (λ (z : MarkHeld). z.view.geometry) filled ∙ ap (λ (z : View). z.geometry) won.won.view) in
+    let number : d.view.number ≡ a.view.number = ap (λ (z : View). z.number) laid.view
+    ∙ (ap (λ (z : MarkHeld). z.view.number) filled ∙ ap (λ (z : View). z.number) won.won.view) in
+    record {
+      shape = subst IsShape (sym shape) free.shape;
+      marker = subst IsMarker (sym number) free.marker;
+      none = ap (λ (z : View). z.pending) laid.view;
+      home = home;
+      wide = wide;
+    }
