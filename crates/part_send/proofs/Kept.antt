@@ -1,6 +1,6 @@
 -- A marker between two calls: no claim pends, and the claim word that it keeps is the one that its view has seen, after
 -- a look, a won claim and a lay.
-use Rattle.std.proofs.Common.{◌≡◌, ℕ, ◌/◌, ◌%◌, ◌^◌, ◌<◌, List, [], bit_or, sym, ap, ◌∙◌, subst}
+use Rattle.std.proofs.Common.{◌≡◌, ℕ, ◌*◌, ◌/◌, ◌%◌, ◌^◌, ◌<◌, List, [], bit_or, sym, ap, ◌∙◌, subst, arith}
 use Rattle.part_geometry.specs.Shape.{Shape, IsShape}
 use Rattle.pair_core.specs.Names.{Claim, claim_words}
 use Rattle.pair_core.specs.Core.{IsMarker}
@@ -12,6 +12,7 @@ use Rattle.part_send.specs.Ends.{IsWide, IsFree, IsTold}
 use Rattle.part_send.specs.Looking.{saw_often}
 use Rattle.part_send.specs.Marking.{IsRefused, HasClaimed, HasLaid}
 use Rattle.part_send.specs.declared.answers.ReadyRefusal.{ReadyRefusal}
+use Rattle.part_send.proofs.Masks.{shifted}
 use Rattle.part_send.proofs.Views.{seen_here}
 use Rattle.part_send.proofs.Winning.{often_seen, often_wide}
 
@@ -21,13 +22,15 @@ often_told s wide a c m n w at is =
     subst (λ (z : MarkHeld). IsTold z.view m w) (sym at)
     (subst (λ (z : ℕ). IsTold (saw_often n (Claim c) w s.view) z w) (sym is) (λ inside. often_seen s.view wide (Claim c) inside n w))
 
--- the word that a won claim left: the one that was shown, with the partition
-pub won_told : (d : View) → IsWide d → (a b : MarkHeld) (shown p m n w : ℕ) (bs : List ℕ) → a.view ≡ saw_often n (Claim (p / 32)) shown d → HasWon shown p bs a b
-    → m ≡ p / 32 → w ≡ bit_or shown (2 ^ (p % 32)) → IsTold b.view m w
-won_told d wide a b shown p m n w bs at won is word inside =
+-- the word that a won claim left: the one that was shown, which it found, with the partition
+pub won_told : (s : MarkHeld) → IsWide s.view → (a b : MarkHeld) (shown found p m n : ℕ) (bs : List ℕ) → a ≡ record s { view = saw_often n (Claim (p / 32)) shown s.view } → HasWon shown p bs a b
+    → found ≡ shown → m ≡ p / 32 → IsTold b.view m (bit_or found (1 * 2 ^ (p % 32) % 18446744073709551616))
+won_told s wide a b shown found p m n bs at won same is inside =
+    let word : bit_or found (1 * 2 ^ (p % 32) % 18446744073709551616) ≡ bit_or shown (2 ^ (p % 32)) = ap (bit_or found) (shifted (p % 32) (omega arith))
+    ∙ ap (λ (z : ℕ). bit_or z (2 ^ (p % 32))) same in
     let there : p / 32 < claim_words a.view.geometry = subst (λ (z : ℕ). z < claim_words a.view.geometry) is
     (subst (λ (z : Shape). m < claim_words z) (ap (λ (z : View). z.geometry) won.view) inside) in
-    let wide_at : IsWide a.view = subst IsWide (sym at) (often_wide n (Claim (p / 32)) shown d wide) in
+    let wide_at : IsWide a.view = subst (λ (z : MarkHeld). IsWide z.view) (sym at) (often_wide n (Claim (p / 32)) shown s.view wide) in
     ap (λ (z : ℕ). seen b.view (Claim z)) is ∙ (ap (λ (z : View). seen z (Claim (p / 32))) won.view
     ∙ (seen_here a.view wide_at (Claim (p / 32)) there (bit_or shown (2 ^ (p % 32))) ∙ sym word))
 

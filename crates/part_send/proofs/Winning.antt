@@ -11,12 +11,13 @@ use Rattle.gate_word.proofs.Packing.{read, bits-small}
 use Rattle.pair_core.specs.Words.{bit}
 use Rattle.pair_core.specs.Names.{Name, Claim, Fits, claim_words, number, pick}
 use Rattle.pair_core.proofs.Facts.{bit_lt, later_bit, number_lt}
+use Rattle.pair_rule.specs.Marking.{HasWon}
 use Rattle.pair_rule.specs.Seats.{MarkHeld}
 use Rattle.pair_rule.specs.Views.{seen, looks, saw}
 use Rattle.pair_rule.specs.declared.view.View.{View}
 use Rattle.part_send.specs.Ends.{IsWide}
 use Rattle.part_send.specs.Looking.{saw_often, HasSeen}
-use Rattle.part_send.specs.Marking.{IsRight, Lets, Refuses, Claims}
+use Rattle.part_send.specs.Marking.{IsRight, Lets, Refuses, Claims, HasClaimed}
 use Rattle.part_send.specs.declared.answers.ReadyRefusal.{ReadyRefusal}
 use Rattle.part_send.specs.declared.answers.ReadyRefusal.TheVariants.{BadPartition, BadLength, NotActive, AlreadyMarked, BadRange}
 use Rattle.part_send.proofs.Masks.{word_bit}
@@ -198,3 +199,9 @@ refused_often s wide n k p w bs a cause right at later lets why =
         why = why;
       },
     )
+
+-- a claim that is won after looks
+pub won_often : (s a b : MarkHeld) (k p w n m : ℕ) (bs : List ℕ) → a ≡ record s { view = saw_often n (Claim (p / 32)) w s.view } → HasWon w p bs a b → Lets w k p
+    → IsLater (seen s.view (Claim (p / 32))) w → m ≡ n + 1 → HasClaimed s b k p bs m
+won_often s a b k p w n m bs at won lets later many =
+    record { shown = w; lost = n; steps = many; lets = lets; later = later; won = subst (λ (z : MarkHeld). HasWon w p bs z b) at won }

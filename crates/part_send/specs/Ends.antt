@@ -1,6 +1,6 @@
 -- The send end and its markers, each by the view of its seat, as they are between two calls.
-use Rattle.std.specs.Prelude.{◌≡◌, ℕ, ◌+◌, ◌<◌, Bool, false, ◌==◌, ◌&&◌, if◌then◌else◌, [], length, fold, Result, Ok, Err}
-use Rattle.std.specs.Prelude.{None}
+use Rattle.std.specs.Prelude.{◌≡◌, ℕ, ◌+◌, ◌<◌, Bool, false, ◌==◌, ◌&&◌, if◌then◌else◌, [], length, fold, Result}
+use Rattle.std.specs.Prelude.{Ok, Err, None}
 use Rattle.std.specs.List.{range_with_len}
 use Rattle.part_geometry.specs.Shape.{IsShape}
 use Rattle.part_geometry.specs.Pieces.{pieces}

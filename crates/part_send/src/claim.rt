@@ -53,8 +53,6 @@ fn begin<C: Content, L: Ledger>(
     ensures steps { (steps.old ≤ steps.new) × (steps.new ≤ steps.old + 1) }
     ensures lets { steps.new ≡ steps.old → Lets told.new.word round partition }
 {
-    // What the seat or the tables say of themselves, for the proof.
-    let _geometry = pair.geometry();
     let number = partition / 32;
     if told.number == number && refuse_word(told.word, round, partition).is_ok() {
         return;

@@ -1,13 +1,10 @@
-use Rattle.std.proofs.Common.{◌≡◌, ℕ, ◌+◌, ◌-◌, ◌*◌, ◌/◌, ◌%◌, ◌^◌, ◌<◌, bit_or, ap, ◌∙◌, subst, arith}
+use Rattle.std.proofs.Common.{◌≡◌, ℕ, ◌+◌, ◌-◌, ◌/◌, ◌%◌, ◌<◌, arith}
 use Rattle.std.proofs.lemmas.Result.{err_from_is_err_and}
 use Rattle.pair_core.specs.Names.{Claim, claim_words}
 use Rattle.pair_core.proofs.Facts.{later_trans}
-use Rattle.pair_rule.specs.Marking.{HasWon}
-use Rattle.pair_rule.specs.Seats.{MarkHeld}
 use Rattle.pair_rule.specs.Views.{seen}
 use Rattle.part_send.proofs.Kept.{often_told, won_told}
-use Rattle.part_send.proofs.Masks.{shifted}
-use Rattle.part_send.proofs.Winning.{others_few, one_more, lost_often, refused_often}
+use Rattle.part_send.proofs.Winning.{others_few, one_more, lost_often, refused_often, won_often}
 use Rattle.part_send.proofs.claim.claim.Goals as goal
 
 pub returns-in_err-refuse_word-clause-answer : goal.returns-in_err-refuse_word-clause-answer
@@ -38,25 +35,15 @@ returns-in_err-refuse_word-2-clause-told g c =
 
 pub returns-then-found-told-clause-answer : goal.returns-then-found-told-clause-answer
 returns-then-found-told-clause-answer g c =
-    let i = c.loop.invariant in let p : ℕ = c.args.partition in
-    let least = i.least in let tick = c.tick.ensures in
-    record {
-      shown = c.loop.told.word;
-      lost = c.loop.steps - c.args.steps.now;
-      steps = omega arith;
-      lets = c.in_ok-refuse_word.ensures;
-      later = i.later;
-      won = subst (λ (z : MarkHeld). HasWon c.loop.told.word p c.args.bytes.now z c.try_claim-found.new.seat) i.seat
-          (c.try_claim-found.ensures.won c.if-found-told.true);
-    }
+    let i = c.loop.invariant in let least = i.least in let tick = c.tick.ensures in
+    won_often c.args.seat.now c.loop.seat c.try_claim-found.new.seat c.args.round c.args.partition c.loop.told.word (c.loop.steps - c.args.steps.now) _ c.args.bytes.now
+    i.seat (c.try_claim-found.ensures.won c.if-found-told.true) c.in_ok-refuse_word.ensures i.later (omega arith)
 
 pub returns-then-found-told-clause-told : goal.returns-then-found-told-clause-told
 returns-then-found-told-clause-told g c =
-    let i = c.loop.invariant in let p : ℕ = c.args.partition in let found : ℕ = c.try_claim-found.result in
-    let word : bit_or found (1 * 2 ^ (p % 32) % 18446744073709551616) ≡ bit_or c.loop.told.word (2 ^ (p % 32)) = ap (bit_or found) (shifted (p % 32) (omega arith))
-    ∙ ap (λ (z : ℕ). bit_or z (2 ^ (p % 32))) c.if-found-told.true in
-    won_told c.args.seat.now.view c.requires.free.wide c.loop.seat c.try_claim-found.new.seat c.loop.told.word p c.loop.told.number (c.loop.steps - c.args.steps.now) _ c.args.bytes.now
-    (ap (λ (z : MarkHeld). z.view) i.seat) (c.try_claim-found.ensures.won c.if-found-told.true) i.number word
+    let i = c.loop.invariant in
+    won_told c.args.seat.now c.requires.free.wide c.loop.seat c.try_claim-found.new.seat c.loop.told.word c.try_claim-found.result c.args.partition c.loop.told.number
+    (c.loop.steps - c.args.steps.now) c.args.bytes.now i.seat (c.try_claim-found.ensures.won c.if-found-told.true) c.if-found-told.true i.number
 
 pub loop-preserved : goal.loop-preserved
 loop-preserved g c =
