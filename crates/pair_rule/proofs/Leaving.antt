@@ -41,6 +41,7 @@ left_more [] (w ∷ vs) b v h e = absurd h
 left_more (c ∷ bs) [] b v h e = absurd h
 left_more (c ∷ bs) (w ∷ vs) b v h e = (h.0, left_more bs vs b v h.1 e)
 
+-- what P says of a buffer, of what is left of it
 one_of : (P : Buf → Type 0) (b : Buf) (v : Option Buf) → IsLeft b v → P b → IfSome v P
 one_of P b None e p = tt
 one_of P b (Some y) e p = subst P (sym e) p
@@ -58,6 +59,7 @@ pub own_or : (P : Buf → Type 0) (b : Buf) (v : Option Buf) → P b → IfSome 
 own_or P b None p h = p
 own_or P b (Some y) p h = h
 
+-- a list has a value at each number below its length
 there : {X : Type 0} (ys : List X) (c : ℕ) → c < length ys → (y : X) × (get_elem? ys c ≡ some y)
 there [] c h = absurd (omega arith)
 there (y ∷ ys) zero h = (y, refl)
@@ -77,18 +79,21 @@ over_none p f l = ap (λ (z : ℕ). take p l ++ drop z l) (let e : p + 0 ≡ p =
 -- ---- one step of lending the values of a block, from the first slot on
 
 module _ {B : Type 0} (p f n : ℕ) (ys : List B) (l : List (ℕ × Option B)) (count : length ys ≡ n) (block : take n (drop p l) ≡ row f (map Some ys)) where
+  -- the next slot is as it was, whatever the ones before it have
   pub lend_at : (c : ℕ) (vs : List (Option B)) → length vs ≡ c → c < n → (y : B) × (get_elem? (overlaid p f vs l) (p + c) ≡ some (f + c, Some y)) × (get_elem? l (p + c) ≡ some (f + c, Some y))
   lend_at c vs k h =
       let b = block_at p f n ys l c count block h in
       let P : ℕ → Type 0 = λ m. get_elem? l (p + m) ≡ some (f + c, Some b.0) → get_elem? (overlaid p f vs l) (p + m) ≡ some (f + c, Some b.0) in
       (b.0, subst P k (back_at p f vs l (f + c, Some b.0)) b.1, b.1)
 
+  -- what was left grows by the next slot
   pub lend_set : (c : ℕ) (vs : List (Option B)) (v : Option B) → length vs ≡ c → c < n → set (overlaid p f vs l) (p + c) (f + c, v) ≡ overlaid p f (vs ++ v ∷ []) l
   lend_set c vs v k h =
       let b = block_at p f n ys l c count block h in
       let P : ℕ → Type 0 = λ m. get_elem? l (p + m) ≡ some (f + c, Some b.0) → set (overlaid p f vs l) (p + m) (f + m, v) ≡ overlaid p f (vs ++ v ∷ []) l in
       subst P k (back_set p f vs l (f + c, Some b.0) v) b.1
 
+  -- and the shelf by its buffer
   pub lend_more : (c : ℕ) (items : List B) (b : B) → length items ≡ c → row f (map Some items) ≡ take c (drop p l) → get_elem? l (p + c) ≡ some (f + c, Some b)
       → row f (map Some (items ++ b ∷ [])) ≡ take (c + 1) (drop p l)
   lend_more c items b k so at =
@@ -100,11 +105,13 @@ module _ {B : Type 0} (p f n : ℕ) (ys : List B) (l : List (ℕ × Option B)) (
 -- ---- one step of putting values into a block, from the last slot on
 
 module _ {S : Type 0} (p f : ℕ) (l : List (ℕ × S)) where
+  -- the slot before those that were filled is as it was
   pub put_there : (k m : ℕ) (vs : List S) (y : S) → m ≡ k + 1 → get_elem? l (p + k) ≡ some (f + k, y) → get_elem? (overlaid (p + m) (f + m) vs l) (p + k) ≡ some (f + k, y)
   put_there k m vs y e at =
       let a : suc (p + k) ≡ p + m = omega arith in
       subst (λ (z : ℕ). get_elem? (overlaid z (f + m) vs l) (p + k) ≡ some (f + k, y)) a (front_at (p + k) (f + m) vs l (f + k, y) at)
 
+  -- the filled ones grow by it
   pub put_more : (k m : ℕ) (v : S) (vs : List S) (y : S) → m ≡ k + 1 → get_elem? l (p + k) ≡ some (f + k, y) → set (overlaid (p + m) (f + m) vs l) (p + k) (f + k, v) ≡ overlaid (p + k) (f + k) (v ∷ vs) l
   put_more k m v vs y e at =
       let a : suc (p + k) ≡ p + m = omega arith in let b : suc (f + k) ≡ f + m = omega arith in
@@ -125,6 +132,7 @@ module _ {S : Type 0} (l l' : List (ℕ × S)) (m : ℕ) (x : ℕ × S) (at : ge
   pub turned_value : (v : S) → l' ≡ (x.0, v) ∷ rest l' → x.1 ≡ v
   turned_value v e = same_head x (x.0, v) l' turned_head e
 
+  -- whatever its value, the list is as long as it was
   pub turned_length : suc (length (rest l')) ≡ length l
   turned_length = swapped_length l l' (x ∷ rest l') m x x to turned_head (λ i. x ∷ rest l') (let s = (at_split l m x at).0 in omega arith)
 

@@ -11,9 +11,11 @@ use Rattle.pair_rule.specs.Seats.{AreLanes, cells_of}
 use Rattle.pair_rule.specs.declared.view.View.{View}
 
 module _ {X : Type 0} where
+  -- a block within A
   front : (A Y : List X) (b m : ℕ) → b + m ≤ length A → take m (drop b (A ++ Y)) ≡ take m (drop b A)
   front A Y b m h = ap (take m) (drop-append-le b A Y (omega arith)) ∙ take-append-le m (drop b A) Y (let d = length-drop b A in omega arith)
 
+  -- a place behind A and R
   behind : (A R B : List X) (b : ℕ) → length A + length R ≤ b → drop b (A ++ (R ++ B)) ≡ drop (b - (length A + length R)) B
   behind A R B b h =
       let k : ℕ = length A + length R in let L : List X = A ++ (R ++ B) in

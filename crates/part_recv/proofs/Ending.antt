@@ -123,6 +123,7 @@ end_starts a w s d g side out home h = record {
 -- ---- a take
 
 module _ (may : ℕ → ℕ → ℕ → Type 0) (a : Bool) (w q : ℕ) (shelf : Room) (s t : RecvHeld) (lanes : AreLanes s.view (length s.slots) s.lanes) (free : HasFlags false false q s.lanes) (h : PartTaken may q shelf s t) (end : IsEnd a w s) where
+  -- the seat then
   abbrev away : RecvHeld
   away = record s {
     view = taken_from q (bytes_in shelf.bufs) (seen s.view (Take (q / 32))) s.view;
@@ -131,6 +132,7 @@ module _ (may : ℕ → ℕ → ℕ → Type 0) (a : Bool) (w q : ℕ) (shelf : 
     shelves = set s.shelves q None;
   }
 
+  -- as many slots as the partition has cells
   size : length h.left ≡ cells_of s.view.geometry q
   size = left_length shelf.bufs h.left h.leaves ∙ h.are.size
 
