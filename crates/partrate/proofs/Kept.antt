@@ -1,6 +1,6 @@
 -- After a start the send end is still the pair's: the steps of a start don't change the geometry of a view, one after
--- another.
-use Rattle.std.proofs.Common.{◌≡◌, ℕ, List, [], ◌∷◌, fold, Result, Ok, Err, ap, refl, ◌∙◌}
+-- another. And what threads promise that are still to be joined.
+use Rattle.std.proofs.Common.{◌≡◌, ℕ, suc, List, [], ◌∷◌, fold, All, Result, Ok, Err, ap, refl, subst, arith, ◌∙◌}
 use Rattle.std.specs.List.{range_with_len}
 use Rattle.part_geometry.specs.Pieces.{pieces}
 use Rattle.part_geometry.specs.declared.answers.StartFault.{StartFault}
@@ -31,3 +31,7 @@ started_is_of pair old new r is_of h = (
   ap (λ (s : Held). s.table) h ∙ is_of.0,
   ap (λ (s : Held). s.view.geometry) h ∙ (start_kept old.view r ∙ is_of.1),
 )
+
+-- what holds of all of a list holds of those behind the first
+pub rest_all : {X : Type 0} (P : X → Type 0) (xs ys : List X) (x : X) → xs ≡ x ∷ ys → All P xs → All P ys
+rest_all P xs ys x e all k d below = subst (All P) e all (suc k) d (omega arith)

@@ -1,5 +1,6 @@
-use Rattle.std.proofs.Common.{rules, ap, ◌∙◌, ◌+◌}
+use Rattle.std.proofs.Common.{◌≡◌, ap, ◌∙◌}
 use Rattle.pair_rule.specs.Seats.{Held}
+use Rattle.partrate.proofs.Kept.{rest_all}
 use Rattle.partrate.proofs.threads.join_markers.Goals as goal
 
 -- The thread that is joined stood first among the rest.
@@ -11,5 +12,5 @@ loop-thread-preserved g c =
       tt,
       tt,
       (ap (λ (s : Held). s.table) back ∙ was.2.0, ap (λ (s : Held). s.view.geometry) back ∙ was.2.1),
-      λ k d below. let h = was.3 (k + 1) d in grind rules,
+      rest_all (λ h. h.promise.0.now ≡ c.args.pair.now) _ _ _ step.0 was.3,
     )
