@@ -1,13 +1,10 @@
 -- Lanes and the places of their slots. What is said of the lane q goes by recursion on q and the lanes together.
-use Rattle.std.proofs.Common.{◌≡◌, ◌≢◌, ◌⊎◌, inl, inr, ⊎_elim, ℕ, zero, suc, ◌+◌, ◌<◌, ◌≤◌, Bool, true, false, cond, List, [], ◌∷◌, ◌++◌, length, get_or, take, drop, set, replicate, refl, sym, ap, ◌∙◌, arith, append_assoc, length-append, take-append-drop, take_at, drop_at}
+use Rattle.std.proofs.Common.{◌≡◌, ◌≢◌, ◌⊎◌, inl, inr, ⊎_elim, ℕ, zero, suc, ◌+◌, ◌<◌, ◌≤◌, Bool, true, false, cond, List, [], ◌∷◌, ◌++◌, length, get_or, take, drop, set, refl, sym, ap, ◌∙◌, arith, take-append-drop}
 use Rattle.std.specs.Prelude.{if◌then◌else◌}
 use mathlib.Core.Option.{some, some-injective, some-ne-none}
 use lib.ListN.{get_elem?}
-use Rattle.std.proofs.lemmas.List.{length-replicate}
-use Rattle.slot_rows.specs.Lists.{row, spliced}
-use Rattle.slot_rows.specs.Lanes.{width, wide, place, flagged, HasFlags, HasSlot, rows_of}
+use Rattle.slot_rows.specs.Lanes.{width, wide, place, flagged, HasFlags, HasSlot}
 use Rattle.slot_rows.specs.declared.lane.Lane.{Lane}
-use Rattle.slot_rows.proofs.Lists.{at_split, row_length}
 
 pub wide_append : (a b : List Lane) → wide (a ++ b) ≡ wide a + wide b
 wide_append [] b = omega arith
@@ -81,11 +78,6 @@ wide_out t q ls h = let w = flagged_wide t true q ls h.lane h.at in let e = home
 pub wide_home : (t u : Bool) (q : ℕ) (ls : List Lane) → (h : HasFlags t true q ls) → wide (flagged u false q ls) + h.lane.count ≡ wide ls
 wide_home t u q ls h = let w = flagged_wide u false q ls h.lane h.at in let e = out_width h.lane h.out in omega arith
 
-flagged_split : (t o : Bool) (q : ℕ) (ls : List Lane) (x : Lane) → get_elem? ls q ≡ some x → flagged t o q ls ≡ take q ls ++ record x { taken = t; out = o } ∷ drop (suc q) ls
-flagged_split t o q [] x e = absurd (some-ne-none x (sym e))
-flagged_split t o zero (y ∷ ys) x e = ap (λ (z : Lane). record z { taken = t; out = o } ∷ ys) (some-injective y x e)
-flagged_split t o (suc q) (y ∷ ys) x e = ap (λ (z : List Lane). y ∷ z) (flagged_split t o q ys x e)
-
 pub flagged_twice : (t o u p : Bool) (q : ℕ) (ls : List Lane) → flagged t o q (flagged u p q ls) ≡ flagged t o q ls
 flagged_twice t o u p q [] = refl
 flagged_twice t o u p zero (x ∷ xs) = refl
@@ -119,56 +111,3 @@ flags_else t o u v p q ls n h = record { lane = h.lane; at = flagged_else u v q 
 
 pub flags_here : (t o u v : Bool) (q : ℕ) (ls : List Lane) → HasFlags t o q ls → HasFlags u v q (flagged u v q ls)
 flags_here t o u v q ls h = record { lane = record h.lane { taken = u; out = v }; at = flagged_here u v q ls h.lane h.at; taken = refl; out = refl }
-
--- the lists where all slots have one value
-module _ {S : Type 0} (y : S) (base : ℕ) where
-  abbrev block : Lane → List (ℕ × S)
-  block l = cond l.out (row (base + l.first) (replicate l.count y)) []
-
-  block_length : (b : Bool) (f n : ℕ) → length (cond b (row f (replicate n y)) []) ≡ cond b n 0
-  block_length true f n = row_length f (replicate n y) ∙ length-replicate n y
-  block_length false f n = refl
-
-  pub rows_of_length : (ls : List Lane) → length (rows_of y base ls) ≡ wide ls
-  rows_of_length [] = refl
-  rows_of_length (l ∷ ls) = let a = length-append (block l) (rows_of y base ls) in let b = block_length l.out (base + l.first) l.count in let c = rows_of_length ls in omega arith
-
-  pub rows_of_append : (a b : List Lane) → rows_of y base (a ++ b) ≡ rows_of y base a ++ rows_of y base b
-  rows_of_append [] b = refl
-  rows_of_append (l ∷ ls) b = ap (λ (z : List (ℕ × S)). block l ++ z) (rows_of_append ls b) ∙ sym (append_assoc (block l) (rows_of y base ls) (rows_of y base b))
-
-  -- a lane goes out
-  pub rows_of_out : (t : Bool) (q : ℕ) (ls : List Lane) (x : Lane) → get_elem? ls q ≡ some x → x.out ≡ false
-      → rows_of y base (flagged t true q ls) ≡ spliced (place ls q) (base + x.first) (replicate x.count y) (rows_of y base ls)
-  rows_of_out t q ls x e o =
-      let A : List Lane = take q ls in let D : List Lane = drop (suc q) ls in let w : Lane = record x { taken = t; out = true } in
-      let R : List (ℕ × S) = row (base + x.first) (replicate x.count y) in
-      let s : ls ≡ A ++ x ∷ D = sym (take-append-drop q ls) ∙ ap (λ (z : List Lane). A ++ z) (at_split ls q x e).1 in
-      let none : block x ≡ [] = ap (λ (b : Bool). cond b R []) o in
-      let l : rows_of y base ls ≡ rows_of y base A ++ rows_of y base D = ap (rows_of y base) s ∙ (rows_of_append A (x ∷ D) ∙ ap (λ (z : List (ℕ × S)). rows_of y base A ++ (z ++ rows_of y base D)) none) in
-      let n : length (rows_of y base A) ≡ place ls q = rows_of_length A in
-      ap (rows_of y base) (flagged_split t true q ls x e) ∙ (rows_of_append A (w ∷ D)
-      ∙ (λ i. (sym (ap (take (place ls q)) l ∙ take_at (rows_of y base A) (rows_of y base D) (place ls q) n)) i ++ (R ++ (sym (ap (drop (place ls q)) l ∙ drop_at (rows_of y base A) (rows_of y base D) (place ls q) n)) i)))
-
-  -- a lane that is out, in the list without it
-  pub rows_of_in : (q : ℕ) (ls : List Lane) (x : Lane) → get_elem? ls q ≡ some x → x.taken ≡ true → x.out ≡ true
-      → rows_of y base ls ≡ spliced (place ls q) (base + x.first) (replicate x.count y) (rows_of y base (flagged true false q ls))
-  rows_of_in q ls x e t o =
-      let ls' : List Lane = flagged true false q ls in
-      let back : flagged true true q ls' ≡ ls = flagged_twice true true true false q ls ∙ ((λ i. flagged (sym t i) (sym o i) q ls) ∙ flagged_same q ls x e) in
-      ap (rows_of y base) (sym back) ∙ (rows_of_out true q ls' (record x { taken = true; out = false }) (flagged_here true false q ls x e) refl
-      ∙ ap (λ (p : ℕ). spliced p (base + x.first) (replicate x.count y) (rows_of y base ls')) (flagged_place true false q ls))
-
-  pub place_fits : (q : ℕ) (ls : List Lane) → place ls q ≤ length (rows_of y base ls)
-  place_fits q ls = let a = rows_of_length ls in let b = wide_below q ls in omega arith
-
-  -- the place of a lane in the list without it
-  pub place_before : (q : ℕ) (ls : List Lane) → place ls q ≤ length (rows_of y base (flagged true false q ls))
-  place_before q ls = let a = place_fits q (flagged true false q ls) in let b = flagged_place true false q ls in omega arith
-
-  -- where no lane is out the list is empty
-  pub rows_of_none : (ls : List Lane) → ((q : ℕ) (l : Lane) → get_elem? ls q ≡ some l → l.out ≡ false) → rows_of y base ls ≡ []
-  rows_of_none [] h = refl
-  rows_of_none (l ∷ ls) h =
-      let R : List (ℕ × S) = row (base + l.first) (replicate l.count y) in
-      ap (λ (b : Bool). cond b R [] ++ rows_of y base ls) (h 0 l refl) ∙ rows_of_none ls (λ q x e. h (suc q) x e)

@@ -1,9 +1,8 @@
 -- Slots of a list whose values change one after another, from the first or from the last on: the list is `overlaid` by a row that grows by one.
-use Rattle.std.proofs.Common.{◌≡◌, ℕ, zero, suc, ◌+◌, ◌<◌, ◌≤◌, List, [], ◌∷◌, ◌++◌, map, length, take, drop, set, replicate, Option, Some, None, refl, sym, ap, ◌∙◌, subst, arith, append_assoc, length-append, take-append-drop, length-take-le, take_at, drop_at, drop-drop}
+use Rattle.std.proofs.Common.{◌≡◌, ℕ, zero, suc, ◌+◌, ◌<◌, ◌≤◌, List, [], ◌∷◌, ◌++◌, map, length, take, drop, set, Option, Some, None, refl, sym, ap, ◌∙◌, subst, arith, append_assoc, length-append, take-append-drop, length-take-le, take_at, drop_at, drop-drop}
 use mathlib.Core.Option.{some, some-injective, some-ne-none}
 use lib.ListN.{get_elem?, length-map}
 use Rattle.std.proofs.Math.Seq.{set-append_seam}
-use Rattle.std.proofs.lemmas.List.{length-replicate, replicate-append-replicate, map-append}
 use Rattle.slot_rows.specs.Lists.{row, spliced, overlaid}
 use Rattle.slot_rows.proofs.Lists.{at_split, row_length}
 
@@ -37,15 +36,6 @@ module _ {X : Type 0} where
   abbrev head_or : X → List X → X
   head_or d [] = d
   head_or d (z ∷ zs) = z
-
-  -- one was taken from the end of a beginning
-  pub popped : (all items : List X) (b : X) → items ++ b ∷ [] ≡ take (length (items ++ b ∷ [])) all → (items ≡ take (length items) all) × (drop (length items) all ≡ b ∷ drop (suc (length items)) all)
-  popped [] [] b e = absurd (let f = ap length e in omega arith)
-  popped [] (x ∷ items) b e = absurd (let f = ap length e in omega arith)
-  popped (a ∷ all) [] b e = (refl, λ i. head_or a (sym e i) ∷ all)
-  popped (a ∷ all) (x ∷ items) b e =
-      let r = popped all items b (ap (drop 1) e) in
-      ((λ i. head_or a (e i) ∷ r.0 i), r.1)
 
 module _ {S : Type 0} where
   pub row_snoc : (k : ℕ) (ys : List S) (y : S) → row k (ys ++ y ∷ []) ≡ row k ys ++ (k + length ys, y) ∷ []
@@ -116,9 +106,6 @@ module _ {S : Type 0} where
       let d : drop (p + length ys) (spliced p f zs l) ≡ drop p l = sym (drop-drop (length ys) p (spliced p f zs l)) ∙ (ap (drop (length ys)) (drop_at (take p l) (R ++ drop p l) p a) ∙ drop_at R (drop p l) (length ys) (row_length f zs ∙ (g ∙ sym e))) in
       λ i. t i ++ (row f ys ++ d i)
 
-one_more : (c : ℕ) → suc c ≡ c + 1
-one_more c = omega arith
-
 module _ {B : Type 0} where
   abbrev values : List (ℕ × Option B) → List B
   values [] = []
@@ -143,57 +130,6 @@ module _ {B : Type 0} where
   block_at p f n ys l c e b h =
       let r = some_at f ys c (omega arith) in
       (r.0, sym (at_drop p l c) ∙ (sym (at_take n (drop p l) c h) ∙ (ap (λ (z : List (ℕ × Option B)). get_elem? z c) b ∙ r.1)))
-
-  abbrev nones : ℕ → List (Option B)
-  nones n = replicate n None
-
-  none_at : (k n c : ℕ) → c < n → get_elem? (row k (nones n)) c ≡ some (k + c, None)
-  none_at k zero c h = absurd (omega arith)
-  none_at k (suc n) zero h = ap (λ (z : ℕ). some (z, None)) (let f : k ≡ k + 0 = omega arith in f)
-  none_at k (suc n) (suc c) h = none_at (suc k) n c (omega arith) ∙ ap (λ (z : ℕ). some (z, None)) (let f : suc k + c ≡ k + suc c = omega arith in f)
-
-  -- what stands in a block of empty slots
-  pub gap_at : (p f n : ℕ) (l : List (ℕ × Option B)) (c : ℕ) → take n (drop p l) ≡ row f (replicate n None) → c < n → get_elem? l (p + c) ≡ some (f + c, None)
-  gap_at p f n l c b h = sym (at_drop p l c) ∙ (sym (at_take n (drop p l) c h) ∙ (ap (λ (z : List (ℕ × Option B)). get_elem? z c) b ∙ none_at f n c h))
-
-  none_more : (c : ℕ) → nones c ++ None ∷ [] ≡ nones (c + 1)
-  none_more c = replicate-append-replicate c 1 None
-
-  -- one step of taking the values out of a block, from the first slot on
-  module _ (p f n : ℕ) (ys : List B) (l : List (ℕ × Option B)) (count : length ys ≡ n) (block : take n (drop p l) ≡ row f (map Some ys)) where
-    pub lent_at : (c : ℕ) → c < n → (y : B) × (get_elem? (overlaid p f (nones c) l) (p + c) ≡ some (f + c, Some y)) × (get_elem? l (p + c) ≡ some (f + c, Some y))
-    lent_at c h =
-        let b = block_at p f n ys l c count block h in let k : length (nones c) ≡ c = length-replicate c None in
-        let P : ℕ → Type 0 = λ m. get_elem? l (p + m) ≡ some (f + c, Some b.0) → get_elem? (overlaid p f (nones c) l) (p + m) ≡ some (f + c, Some b.0) in
-        (b.0, subst P k (back_at p f (nones c) l (f + c, Some b.0)) b.1, b.1)
-
-    pub lent_set : (c : ℕ) → c < n → set (overlaid p f (nones c) l) (p + c) (f + c, None) ≡ overlaid p f (nones (c + 1)) l
-    lent_set c h =
-        let b = block_at p f n ys l c count block h in let k : length (nones c) ≡ c = length-replicate c None in
-        let P : ℕ → Type 0 = λ m. get_elem? l (p + m) ≡ some (f + c, Some b.0) → set (overlaid p f (nones c) l) (p + m) (f + m, None) ≡ overlaid p f (nones c ++ None ∷ []) l in
-        subst P k (back_set p f (nones c) l (f + c, Some b.0) None) b.1 ∙ ap (λ (z : List (Option B)). overlaid p f z l) (none_more c)
-
-    pub lent_row : (c : ℕ) (items : List B) (b : B) → c < n → length items ≡ c → row f (map Some items) ≡ take c (drop p l) → get_elem? (overlaid p f (nones c) l) (p + c) ≡ some (f + c, Some b)
-        → row f (map Some (items ++ b ∷ [])) ≡ take (c + 1) (drop p l)
-    lent_row c items b h k so at =
-        let y = lent_at c h in
-        let e : some (f + c, Some b) ≡ some (f + c, Some y.0) = sym at ∙ y.1 in
-        let here : get_elem? (drop p l) c ≡ some (f + c, Some b) = at_drop p l c ∙ (y.2 ∙ sym e) in
-        let m : length (map Some items) ≡ c = length-map items Some ∙ k in
-        ap (row f) (map-append Some items (b ∷ [])) ∙ (row_snoc f (map Some items) (Some b) ∙ ((λ i. so i ++ (f + m i, Some b) ∷ []) ∙ (sym (take_next (drop p l) c (f + c, Some b) here)
-        ∙ ap (λ (z : ℕ). take z (drop p l)) (one_more c))))
-
-  -- one step of putting values into a block, from the last slot on
-  module _ (p f n : ℕ) (l : List (ℕ × Option B)) (block : take n (drop p l) ≡ row f (nones n)) where
-    pub put_at : (k m : ℕ) (vs : List (Option B)) → k < n → m ≡ k + 1 → get_elem? (overlaid (p + m) (f + m) vs l) (p + k) ≡ some (f + k, None)
-    put_at k m vs h e =
-        let g = gap_at p f n l k block h in let a : suc (p + k) ≡ p + m = omega arith in
-        subst (λ (z : ℕ). get_elem? (overlaid z (f + m) vs l) (p + k) ≡ some (f + k, None)) a (front_at (p + k) (f + m) vs l (f + k, None) g)
-
-    pub put_set : (k m : ℕ) (v : Option B) (vs : List (Option B)) → k < n → m ≡ k + 1 → set (overlaid (p + m) (f + m) vs l) (p + k) (f + k, v) ≡ overlaid (p + k) (f + k) (v ∷ vs) l
-    put_set k m v vs h e =
-        let g = gap_at p f n l k block h in let a : suc (p + k) ≡ p + m = omega arith in let b : suc (f + k) ≡ f + m = omega arith in
-        subst (λ (z : ℕ × ℕ). set (overlaid z.0 z.1 vs l) (p + k) (f + k, v) ≡ overlaid (p + k) (f + k) (v ∷ vs) l) (λ i. (a i, b i)) (front_set (p + k) (f + k) v vs l (f + k, None) g)
 
   -- what was put in, read by other numbers that are equal
   pub block_taken : (f n m p p' : ℕ) (ys : List B) (l l' : List (ℕ × Option B)) → m ≡ n → p' ≡ p → l' ≡ spliced p f (map Some ys) l → p ≤ length l → length ys ≡ n → take m (drop p' l') ≡ row f (map Some ys)

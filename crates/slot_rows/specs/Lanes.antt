@@ -1,11 +1,10 @@
 -- The lanes of a seat, and the places that their slots have in the seat's list: it has the slots of the lanes that are
 -- out, in the order of the lanes.
 use Rattle.std.specs.Prelude.{◌≡◌, ℕ, zero, suc, ◌+◌, ◌<◌, Bool, true, if◌then◌else◌}
-use Rattle.std.specs.Prelude.{List, [], ◌∷◌, ◌++◌, take, replicate}
+use Rattle.std.specs.Prelude.{List, [], ◌∷◌, take}
 use mathlib.Core.Option.{some}
 use lib.ListN.{get_elem?}
 use Rattle.slot_rows.specs.declared.lane.Lane.{Lane}
-use Rattle.slot_rows.specs.Lists.{row}
 
 -- how many slots of a lane are in the list
 abbrev pub width : Lane → ℕ
@@ -38,8 +37,3 @@ pub record HasSlot (q c : ℕ) (ls : List Lane) : Type 0 where
   pub at : get_elem? ls q ≡ some lane
   pub out : lane.out ≡ true
   pub inside : c < lane.count
-
--- the list where each slot in it has the value y, and the slots of a lane are numbered from base + first on
-abbrev pub rows_of : {S : Type 0} → S → ℕ → List Lane → List (ℕ × S)
-rows_of y base [] = []
-rows_of y base (l ∷ ls) = (if l.out then row (base + l.first) (replicate l.count y) else []) ++ rows_of y base ls
