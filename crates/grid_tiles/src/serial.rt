@@ -57,8 +57,9 @@ impl SerialTiles {
         requires around { rule.around ≡ plan.shape.around }
         ensures { IfOk result (λ tiles. tiles ≡ first_tiles plan rule grid.now) }
     {
-        // The limits of the plan and of the grid, for the proof.
+        // The plan's limits, for the proof.
         let _reach = plan.reach();
+        // The grid's limits, for the proof.
         let _rows = grid.rows();
         let blocks = all_blocks(alloc, &plan, grid)?;
         let links = all_links(alloc, &plan)?;

@@ -60,8 +60,9 @@ impl SerialRanks {
         requires around { rule.around ≡ plan.around }
         ensures { IfOk result (λ ranks. ranks ≡ first_ranks plan rule grid.now) }
     {
-        // The limits of the plan and of the grid, for the proof.
+        // The plan's limits, for the proof.
         let _reach = plan.reach();
+        // The grid's limits, for the proof.
         let _rows = grid.rows();
         let blocks = all_blocks(alloc, &plan, grid)?;
         let pairs = all_pairs(alloc, &plan)?;

@@ -30,14 +30,17 @@ pub record Rests (s t : End) : Type 0 where
   pub round : t.view.recv.round ≡ s.view.recv.round
   pub lanes : t.lanes ≡ s.lanes
 
+-- looks leave the geometry of a view
 looked_geometry : (e i : ℕ) (ws : List ℕ) (d : View) → (looked e i ws d).geometry ≡ d.geometry
 looked_geometry e i [] d = refl
 looked_geometry e i (w ∷ ws) d = looked_geometry e (suc i) ws (saw (Piece e i) w d)
 
+-- and its receive side
 looked_side : (e i : ℕ) (ws : List ℕ) (d : View) → (looked e i ws d).recv ≡ d.recv
 looked_side e i [] d = refl
 looked_side e i (w ∷ ws) d = looked_side e (suc i) ws (saw (Piece e i) w d)
 
+-- an end that is the same has them
 same_rests : (s t : End) → t ≡ s → Rests s t
 same_rests s t e = record {
   geometry = ap (λ (z : End). z.view.geometry) e;
@@ -53,10 +56,12 @@ look_rests e i ws s t d is end = record {
   lanes = ap (λ (z : End). z.lanes) end;
 }
 
+-- a look that found a piece missing
 pub missed_rests : (q i w : ℕ) (s t : End) → Looked q i w s t → Rests s t
 missed_rests q i w s t h =
     look_rests (place_in s.view s.view.recv.round) (first_piece s.view.geometry q) (h.misses.before ++ w ∷ []) s t h.view h.misses.looks.view h.end
 
+-- a look that found all of them
 pub seen_rests : (q : ℕ) (s t : End) → LookedAll q s t → Rests s t
 seen_rests q s t h =
     look_rests (place_in s.view s.view.recv.round) (first_piece s.view.geometry q) h.sees.words s t h.view h.sees.looks.view h.end
@@ -76,13 +81,14 @@ tested_rests (Untaken q) s = record { geometry = refl; round = refl; lanes = ref
 tested_rests (Out q) s = record { geometry = refl; round = refl; lanes = refl }
 tested_rests Done s = record { geometry = refl; round = refl; lanes = refl }
 
--- an end that looked at a partition, and one that refused a take
+-- an end that looked at a partition
 pub answered_rests : (q : ℕ) (r : EndLook) (s t : End) → IsEndLook q r s t → Rests s t
 answered_rests q look.Idle s t h = same_rests s t h.1
 answered_rests q look.BadPartition s t h = same_rests s t h.2
 answered_rests q (look.NotYet i w) s t h = missed_rests q i w s t h.1
 answered_rests q look.Arrived s t h = seen_rests q s t h.1
 
+-- an end that refused a take
 pub refused_rests : (q : ℕ) (r : TakeRefusal) (s t : End) → IsRefused q r s t → Rests s t
 refused_rests q take.Idle s t h = same_rests s t h.1
 refused_rests q take.BadPartition s t h = same_rests s t h.2
@@ -97,6 +103,7 @@ out_rests a s t r h = record {
   out = subst (HasFlags true true a.partition) (sym r.lanes) h.out;
 }
 
+-- and so is what is kept of each partition
 pub held_rests : (held : List (Option Arrived)) (s t : End) → Rests s t → AreHeld held s → AreHeld held t
 held_rests held s t r h = λ q a at. let x = h q a at in (x.0, out_rests a s t r x.1)
 
@@ -108,9 +115,11 @@ flagged_else t o zero (x ∷ xs) (suc p) n = refl
 flagged_else t o (suc q) (x ∷ xs) zero n = refl
 flagged_else t o (suc q) (x ∷ xs) (suc p) n = flagged_else t o q xs p (λ e. n (ap suc e))
 
+-- so a lane that is out has its flags still
 flags_else : (t o : Bool) (q p : ℕ) (ls : List Lane) → p ≢ q → HasFlags true true p ls → HasFlags true true p (flagged t o q ls)
 flags_else t o q p ls n h = record { lane = h.lane; at = flagged_else t o q ls p n ∙ h.at; taken = h.taken; out = h.out }
 
+-- what is out stays so where another lane's flags changed
 out_else : (t o : Bool) (q : ℕ) (a : Arrived) (s e : End) → e.view.geometry ≡ s.view.geometry → e.view.recv ≡ s.view.recv → e.lanes ≡ flagged t o q s.lanes → a.partition ≢ q → IsOut a s → IsOut a e
 out_else t o q a s e g r l n h = record {
   geometry = h.geometry ∙ sym g;
@@ -118,7 +127,7 @@ out_else t o q a s e g r l n h = record {
   out = subst (HasFlags true true a.partition) (sym l) (flags_else t o q a.partition s.lanes n h.out);
 }
 
--- a take keeps its arrival, and a return keeps nothing of its partition
+-- a take keeps its arrival
 pub held_took : (may : ℕ → ℕ → ℕ → Type 0) (q : ℕ) (a : Arrived) (held : List (Option Arrived)) (s t : End) → Takes may q a s t → IsOut a t → q < length held → AreHeld held s → AreHeld (set held q (Some a)) t
 held_took may q a held s t takes out room h p b at =
     elim (cases_eq p q) [
@@ -133,6 +142,7 @@ held_took may q a held s t takes out room h p b at =
           (x.0, out_else true true q b takes.at t (ap (λ (z : End). z.view.geometry) takes.end) (ap (λ (z : End). z.view.recv) takes.end) (ap (λ (z : End). z.lanes) takes.end) (λ e. apart (sym x.0 ∙ e)) y)
     ]
 
+-- a return keeps nothing of its partition, and the others are still out
 pub held_gave : (q : ℕ) (held : List (Option Arrived)) (s : End) → q < length held → AreHeld held s → AreHeld (set held q None) (gave_back q s)
 held_gave q held s room h p b at =
     elim (cases_eq p q) [
@@ -146,6 +156,7 @@ held_gave q held s room h p b at =
 active_same : (s : End) → true ≡ is_active s.view → after_start s ≡ s
 active_same s e = rw (← e) refl
 
+-- so what is kept is out of it still
 pub held_refused : (held : List (Option Arrived)) (s t : End) → true ≡ is_active s.view → t ≡ after_start s → AreHeld held s → AreHeld held t
 held_refused held s t active end h = held_rests held s t (same_rests s t (end ∙ active_same s active)) h
 
@@ -163,5 +174,6 @@ none_kept [] none q = refl
 none_kept (x ∷ xs) none zero = none 0 None (omega arith)
 none_kept (x ∷ xs) none (suc q) = none_kept xs (λ k d h. none (suc k) d (omega arith)) q
 
+-- so nothing that is kept has to be out
 pub held_none : (held : List (Option Arrived)) (s : End) → All (λ (slot : Option Arrived). slot ≡ None) held → AreHeld held s
 held_none held s none q a at = absurd (none-some a (sym (none_kept held none q) ∙ at))

@@ -41,6 +41,7 @@ marks_same : (k : ℕ) (d : View) (es : List (ℕ × List ℕ)) (sent : ℕ) (f 
 marks_same k d [] sent f h = ap (λ (z : View). z.geometry) h.0
 marks_same k d (x ∷ xs) sent f h = marks_same k h.0 xs h.4 f h.5 ∙ ap (λ (z : View). z.geometry) h.3.view
 
+-- a range or a list, whether it was stopped or not
 pub many_same : (d e : View) (k : ℕ) (es : List (ℕ × List ℕ)) (r : Result Marks ReadyStop) → TellsMany d e k es r → Same d e
 many_same d e k es (Ok m) h = marks_same k d es m.sent e h.2
 many_same d e k es (Err stop) h = mark_same h.between e k h.next.0 h.next.1 h.steps (Err stop.cause) h.refused ∙ marks_same k d (take stop.at es) h.sent h.between h.marked
@@ -53,17 +54,20 @@ test_same d e (Unsent i w) h = ap (λ (z : View). z.geometry) h.1.same
 test_same d e (Unreleased r) h = ap (λ (z : View). z.geometry) h.1.same
 test_same d e Done h = ap (λ (z : View). z.geometry) h.1.view
 
--- a start
+-- steps that each leave it, one after another
 fold_same : (f : View → ℕ → View) → ((d : View) (i : ℕ) → Same d (f d i)) → (xs : List ℕ) (d : View) → Same d (fold f d xs)
 fold_same f h [] d = refl
 fold_same f h (x ∷ xs) d = fold_same f h xs (f d x) ∙ h d x
 
+-- the stores of piece words
 pieces_same : (k n : ℕ) (d : View) → Same d (pieces_stored k n d)
 pieces_same k n d = fold_same (λ e i. stored_piece k i e) (λ e i. refl) (range_with_len 0 n) d
 
+-- and of claim words
 claims_same : (n : ℕ) (d : View) → Same d (claims_stored n d)
 claims_same n d = fold_same (λ e c. stored_claim c e) (λ e c. refl) (range_with_len 0 n) d
 
+-- a start, refused or not
 pub start_same : (d : View) (r : Result ℕ StartFault) → Same d (after_start d r)
 start_same d (Ok k) =
     claims_same (claim_words d.geometry) (pieces_stored k (pieces d.geometry) d) ∙ pieces_same k (pieces d.geometry) d
