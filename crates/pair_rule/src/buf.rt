@@ -128,7 +128,7 @@ impl CellBuf {
 
     /// A copy of it, where its bytes stand in it itself. It takes no memory.
     #[inline]
-    pub fn copy(&self) -> Option<CellBuf>
+    pub(crate) fn copy(&self) -> Option<CellBuf>
         ensures { IfSome result (λ b. b ≡ self.now) }
     {
         match self.bytes.copy() {
